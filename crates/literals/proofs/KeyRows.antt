@@ -14,7 +14,7 @@ use Rattle.records.specs.Lists.{sameList, position, numbersFrom}
 use Rattle.literals.specs.Domain.{key, isKey}
 use Rattle.literals.specs.Decode.{byte, labelOf}
 use Rattle.literals.specs.Held.{EightAt, WordOf, rowOf, rowsBy, placeUnder, argumentAt, underKey, underKeys, keyRow, keyRows, wordFrom, keyWord}
-use Rattle.literals.proofs.Rows.{length-row, row-inside, row-filled, eight-by-four, eight-before, eight-filled, word-front, same-miss, same-hit, same-end, length-part, part-at, rows-more, rows-end}
+use Rattle.literals.proofs.Rows.{length-row, row-inside, eight-by-four, row-none, row-more, row-all, same-miss, same-hit, same-end, length-part, part-at, rows-more, rows-end}
 use Rattle.literals.proofs.Bytes.{label-key}
 
 -- ---- the place of the first row that passes, from row c on
@@ -163,10 +163,8 @@ tupleFilled n part row = keyRow n part row ++ replicate 8 255
 pub number-none : (n : ℕ) (part row : List ℕ) (k : ℕ) → n ≤ 8 → k ≡ n → EightAt (tupleFilled n part row) k 18446744073709551615
 unfolding keyRow
 number-none n part row k h e =
-    let u = underKeys n (drop 1 part) (drop 2 row) in
     let l = length-keys n (drop 1 part) (drop 2 row) in
-    eight-filled (rowOf u ++ replicate 8 255) k
-    (λ i g. ap (λ (j : ℕ). getD (rowOf u ++ replicate 8 255) (j + i) 0) (e ∙ sym l) ∙ row-filled u i (omega arith) g)
+    row-none (underKeys n (drop 1 part) (drop 2 row)) k (omega arith) (e ∙ sym l)
 
 pub number-more : (n : ℕ) (part row : List ℕ) (k m : ℕ) {b w : ℕ} → n ≤ 8 → k < n → m ≡ k + 1 → (b ≡ underKey k (drop 1 part) (drop 2 row)) × (b < 256)
     → EightAt (tupleFilled n part row) m w → EightAt (tupleFilled n part row) k (256 * (w % 72057594037927936) + b)
@@ -174,14 +172,13 @@ unfolding keyRow
 number-more n part row k m h g e i A =
     let u = underKeys n (drop 1 part) (drop 2 row) in
     let l = length-keys n (drop 1 part) (drop 2 row) in
-    let r = length-row u (omega arith) in
-    eight-before (rowOf u ++ replicate 8 255) k m e
-    (i .0 ∙ sym (under-at n k (drop 1 part) (drop 2 row) g) ∙ row-inside u k (omega arith) ∙ sym (List·getD-append (rowOf u) (replicate 8 255) 0 k (omega arith)), i .1)
-    A
+    row-more u k m (omega arith) (omega arith) e (i .0 ∙ sym (under-at n k (drop 1 part) (drop 2 row) g) ∙ row-inside u k (omega arith), i .1) A
 
 pub number-all : (n : ℕ) (part row : List ℕ) (k : ℕ) {w : ℕ} → n ≤ 8 → k ≤ 0 → EightAt (tupleFilled n part row) k w → WordOf (keyRow n part row) w
-number-all n part row zero h e A = word-front (keyRow n part row) (replicate 8 255) (length-tuple n part row h) A
-number-all n part row (suc k) h e A = absurd (omega arith)
+unfolding keyRow
+number-all n part row k h e A =
+    let l = length-keys n (drop 1 part) (drop 2 row) in
+    row-all (underKeys n (drop 1 part) (drop 2 row)) k (omega arith) e A
 
 -- ---- key tuples as numbers
 

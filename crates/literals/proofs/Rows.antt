@@ -195,23 +195,6 @@ four-of s i j k l {a} {b} {c} {d} e f g w x y z =
     let t = z .1 in
     record { is = omega arith; first = omega arith; second = omega arith; third = omega arith; fourth = omega arith }
 
-pub word-of : (p : List ℕ) → length p ≤ 8 → {a b c d e f g h : ℕ} → IsByte (rowOf p) 0 a → IsByte (rowOf p) 1 b → IsByte (rowOf p) 2 c
-    → IsByte (rowOf p) 3 d → IsByte (rowOf p) 4 e → IsByte (rowOf p) 5 f → IsByte (rowOf p) 6 g → IsByte (rowOf p) 7 h
-    → WordOf (rowOf p)
-    (a + 256 * b + 65536 * c + 16777216 * d + 4294967296 * e + 1099511627776 * f + 281474976710656 * g + 72057594037927936 * h)
-word-of p l {a} {b} {c} {d} {e} {f} {g} {h} i j k m n o q r =
-    record {
-      long = length-row p l;
-      bytes =
-          record {
-            low = a + 256 * b + 65536 * c + 16777216 * d;
-            high = e + 256 * f + 65536 * g + 16777216 * h;
-            lows = four-of (rowOf p) 0 1 2 3 refl refl refl i j k m;
-            highs = four-of (rowOf p) 4 5 6 7 refl refl refl n o q r;
-            is = omega arith;
-          };
-    }
-
 -- of payloads of three, four and eight bytes: what fills them is a number
 filled-byte : (p : List ℕ) (i : ℕ) → length p ≤ i → i < 8 → IsByte (rowOf p) i 255
 filled-byte p i g h = (row-behind p i h g, omega arith)
@@ -334,6 +317,21 @@ word-front row t n A =
             is = A .is;
           };
     }
+
+-- the number of a payload's row, from its end to its front
+pub row-none : (p : List ℕ) (k : ℕ) → length p ≤ 8 → k ≡ length p → EightAt (rowOf p ++ replicate 8 255) k 18446744073709551615
+row-none p k h e =
+    eight-filled (rowOf p ++ replicate 8 255) k (λ i g. ap (λ (j : ℕ). getD (rowOf p ++ replicate 8 255) (j + i) 0) e ∙ row-filled p i h g)
+
+pub row-more : (p : List ℕ) (k m : ℕ) {b w : ℕ} → length p ≤ 8 → k < length p → m ≡ k + 1 → IsByte (rowOf p) k b
+    → EightAt (rowOf p ++ replicate 8 255) m w → EightAt (rowOf p ++ replicate 8 255) k (256 * (w % 72057594037927936) + b)
+row-more p k m h g e i A =
+    let r = length-row p h in
+    eight-before (rowOf p ++ replicate 8 255) k m e (i .0 ∙ sym (List·getD-append (rowOf p) (replicate 8 255) 0 k (omega arith)), i .1) A
+
+pub row-all : (p : List ℕ) (k : ℕ) {w : ℕ} → length p ≤ 8 → k ≤ 0 → EightAt (rowOf p ++ replicate 8 255) k w → WordOf (rowOf p) w
+row-all p zero h e A = word-front (rowOf p) (replicate 8 255) (length-row p h) A
+row-all p (suc k) h e A = absurd (omega arith)
 
 -- two numbers of eight bytes are the same where the bytes are
 module _ (x y : List ℕ) (i j : ℕ) (h : i + 8 ≤ length x) (g : j + 8 ≤ length y) {a b : ℕ} (A : EightAt x i a) (B : EightAt y j b) where

@@ -133,21 +133,19 @@ fn row_digit(p: &[u8], i: usize) -> u64
     longer(wide32(row_byte(p, i)))
 }
 
-// The number of a payload's row, byte by byte.
+// The number of a payload's row, byte by byte. It starts as FF eight times; from the last byte to the first, each is put in below the
+// others, and the highest falls out.
 fn number_row(p: &[u8]) -> u64
     requires { ⌜ length (now p) ≤ 8 ⌝ }
     ensures { λ r. ⌜ WordOf (rowOf (now (p .entry))) r ⌝ }
 {
-    let a = row_digit(p, 0);
-    let b = row_digit(p, 1);
-    let c = row_digit(p, 2);
-    let d = row_digit(p, 3);
-    let e = row_digit(p, 4);
-    let f = row_digit(p, 5);
-    let g = row_digit(p, 6);
-    let h = row_digit(p, 7);
-    let low = a + 256 * b + 65536 * c + 16777216 * d;
-    low + 4294967296 * e + 1099511627776 * f + 281474976710656 * g + 72057594037927936 * h
+    let mut word: u64 = 18446744073709551615;
+    let mut i = p.len();
+    while 0 < i {
+        i -= 1;
+        word = 256 * (word % 72057594037927936) + row_digit(p, i);
+    }
+    word
 }
 
 // The number of a payload's row: it is compared with rows, and written, as one number, which is much quicker than byte by byte. Payloads

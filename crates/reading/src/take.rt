@@ -34,13 +34,11 @@ use literals::span::Span;
 use records::bytes::any_from;
 ghost use mathlib.Core.Path.{_≡_};
 ghost use Prim.Native.Nat.{_+_, _*_, _≤_, _<_};
-ghost use lib.Dec.{leb};
-ghost use lib.ListN.{length, drop};
-ghost use Rattle.records.specs.Lists.{any};
+ghost use lib.ListN.{length};
 ghost use Rattle.literals.specs.Domain.{Domain};
-ghost use Rattle.literals.specs.Decode.{maxActions, maxArguments, maxLiterals, maxVariables, literalOf, componentFault, stopOf, stopPlace};
+ghost use Rattle.literals.specs.Decode.{maxActions, maxArguments, maxLiterals, literalOf, componentFault, stopOf, stopPlace};
 ghost use Rattle.literals.specs.Decode.{kindOf, relationRecord, actionRecord, literalRecord, componentRecord, closingRecord};
-ghost use Rattle.literals.specs.Held.{rowOf, hasEvery, WordOf, rowsStop, actionsIn, sizeIn, literalArguments, HeadOf, Held, headBytes};
+ghost use Rattle.literals.specs.Held.{rowOf, hasEvery, WordOf, rowsStop, actionsIn, sizeIn, HeadOf, Held, headBytes};
 ghost use Rattle.reading.specs.Held.{Takes, rowsOf, Placed, TakesRow, RecordReady};
 
 pub fn take_relation(head: &mut Head, p: &[u8]) -> u64
@@ -126,20 +124,7 @@ fn place_literal(
     number
 }
 
-// The arguments of a literal, of which one look has told whether some are not below the action's n variables: in most there are none, and
-// FF and an unknown variable need not be asked for.
-fn arguments_fault(p: &[u8], n: u8, beyond: bool) -> u64
-    requires long { ⌜ 2 ≤ length (now p) ⌝ }
-    requires variables { ⌜ n ≤ maxVariables ⌝ }
-    requires told { ⌜ beyond ≡ any (leb n) (drop 2 (now p)) ⌝ }
-    ensures { λ r. ⌜ r ≡ literalArguments n (now (p .entry)) ⌝ }
-{
-    if beyond {
-        return literal_arguments(p, n);
-    }
-    0
-}
-
+// Most literals have variables below their action's count alone: one look tells that FF and an unknown variable need not be asked for.
 pub fn take_literal(head: &mut Head, table: &mut [u8], p: &[u8]) -> u64
     requires { ⌜ RecordReady (now head) (now table) (now p) ⌝ }
     ensures { λ r. ⌜ TakesRow literalRecord (now (p .entry)) r
@@ -163,9 +148,11 @@ pub fn take_literal(head: &mut Head, table: &mut [u8], p: &[u8]) -> u64
     }
     let variables = variables_of(head, last);
     let beyond = any_from(p, 2, variables);
-    let arguments = arguments_fault(p, variables, beyond);
-    if arguments != 0 {
-        return arguments;
+    if beyond {
+        let arguments = literal_arguments(p, variables);
+        if arguments != 0 {
+            return arguments;
+        }
     }
     place_literal(head, table, last, span, p, beyond)
 }

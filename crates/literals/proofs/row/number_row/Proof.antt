@@ -1,44 +1,49 @@
--- `number_row` meets its contract. Assumes nothing.
+-- `number_row` meets its contract: it is the number of the eight bytes from the byte i on. Assumes nothing.
 use native.Mathlib.Omega.{arith}
-use Rattle.literals.proofs.Rows.{word-of}
+use mathlib.Core.List.{_++_}
+use Prim.Native.Nat.{_-_, _≤_}
+use lib.ListN.{length, replicate}
+use Rattle.literals.specs.Held.{rowOf, EightAt}
+use Rattle.literals.proofs.Rows.{row-none, row-more, row-all}
 use borrow.Author.Needs.{needs}
 use Rattle.literals.proofs.row.number_row.Statement.{statement}
 use Rattle.literals.proofs.row.number_row.Tie as tie
 
-returns : tie.Need-returns
-returns c =
-    let back8 = c .before .before .before .before .before .before .before .before in
-    let a = back8 .before .args in
-    word-of (a .p .now) (omega arith) (c .before .before .before .before .before .before .before .row-digit .ensures)
-    (c .before .before .before .before .before .before .row-digit2 .ensures)
-    (c .before .before .before .before .before .row-digit3 .ensures) (c .before .before .before .before .row-digit4 .ensures)
-    (c .before .before .before .row-digit5 .ensures) (c .before .before .row-digit6 .ensures) (c .before .row-digit7 .ensures)
-    (c .row-digit8 .ensures)
+abbrev Inv-loop : tie.InvT-loop
+Inv-loop p word₀ i₀ word i = (i ≤ length p) × EightAt (rowOf p ++ replicate 8 255) i word
+
+abbrev μ-loop : tie.MeasureT-loop
+μ-loop p word₀ i₀ word i = i
+
+loop-holds : tie.Need-loop-holds Inv-loop μ-loop
+loop-holds c = (omega arith, row-none (c .before .args .p .now) _ (omega arith) (omega arith))
+
+row-digit-requires : tie.Need-row-digit-requires Inv-loop μ-loop
+row-digit-requires c κs = let i = c .before .loop .inv .0 in omega arith
+
+add-word : tie.Need-add-word Inv-loop μ-loop
+add-word c = let d = c .row-digit .ensures .1 in omega arith
+
+loop-again : tie.Need-loop-again Inv-loop μ-loop
+loop-again c =
+    let l = c .before .before .loop in
+    let n = l .inv .0 in
+    (omega arith, row-more (c .before .before .before .before .args .p .now) (l .i - 1) (l .i) (omega arith) (omega arith) (omega arith) (c .row-digit .ensures) (l .inv .1))
+
+returns : tie.Need-returns Inv-loop μ-loop
+returns c = let l = c .before .loop in row-all (c .before .before .before .args .p .now) (l .i) (omega arith) (omega arith) (l .inv .1)
 
 pub number-row-spec : {M : Type 1} → statement M
 number-row-spec =
     tie.close
     (tie.spec
-    (λ c κs. search needs)  -- row-digit-requires
-    (λ c κs. search needs)  -- row-digit-requires-2
-    (λ c κs. search needs)  -- row-digit-requires-3
-    (λ c κs. search needs)  -- row-digit-requires-4
-    (λ c κs. search needs)  -- row-digit-requires-5
-    (λ c κs. search needs)  -- row-digit-requires-6
-    (λ c κs. search needs)  -- row-digit-requires-7
-    (λ c κs. search needs)  -- row-digit-requires-8
-    (λ c. search needs)  -- mul-low
-    (λ c. search needs)  -- add-low
-    (λ c. search needs)  -- mul-low-2
-    (λ c. search needs)  -- add-low-2
-    (λ c. search needs)  -- mul-low-3
-    (λ c. search needs)  -- add-low-3
-    (λ c. search needs)  -- mul-result
-    (λ c. search needs)  -- add-result
-    (λ c. search needs)  -- mul-result-2
-    (λ c. search needs)  -- add-result-2
-    (λ c. search needs)  -- mul-result-3
-    (λ c. search needs)  -- add-result-3
-    (λ c. search needs)  -- mul-result-4
-    (λ c. search needs)  -- add-result-4
+    Inv-loop
+    μ-loop
+    loop-holds
+    (λ c. omega arith)  -- sub-i
+    (λ c. omega arith)  -- mul-word
+    row-digit-requires
+    add-word
+    (λ c. omega arith)  -- loop-less
+    loop-again
     returns)

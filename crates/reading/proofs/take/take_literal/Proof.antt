@@ -1,9 +1,12 @@
 -- `take_literal` meets its contract. Assumes nothing.
-use mathlib.Core.Path.{_≡_, sym, _∙_}
+use mathlib.Core.Path.{_≡_, refl, sym, _∙_}
+use mathlib.Core.Logic.{⊎-elim}
 use Prim.Native.Nat.{_+_, _-_}
 use native.Mathlib.Omega.{arith}
 use lib.ListN.{length}
 use Rattle.literals.specs.Decode.{literalRecord}
+use Rattle.literals.specs.Held.{literalArguments}
+use Rattle.literals.proofs.Bytes.{plain-arguments}
 use Rattle.reading.proofs.Takes.{row-stop, held-over, not-zero, span-size, span-all, literal-early, literal-late, literal-full}
 use Rattle.reading.proofs.Takes.{literal-short, told-every, shape-stop, arguments-stop}
 use Rattle.reading.proofs.Written.{literal-stopped, literal-placed}
@@ -48,62 +51,70 @@ returns-4 c =
     literal-stopped K _ _ w (omega arith) (omega arith) S (omega arith)
     (shape-stop (held-over K) _ _ w (c .before .literal-shape .ensures) (λ z. c .if4 .taken z)) (λ z. c .if4 .taken z)
 
-arguments-fault-requires : tie.Need-arguments-fault-requires
-arguments-fault-requires c κs =
-    let z : c .before .before .before .before .literal-shape .result ≡ 0 = omega arith in
-    (literal-short _ _ _ (sym (c .before .before .before .before .literal-shape .ensures) ∙ z) .0, (c .before .variables-of .ensures .1, c .any-from .ensures))
+literal-arguments-requires : tie.Need-literal-arguments-requires
+literal-arguments-requires c κs =
+    let z : c .before .before .before .before .before .literal-shape .result ≡ 0 = omega arith in
+    literal-short _ _ _ (sym (c .before .before .before .before .before .literal-shape .ensures) ∙ z) .0
 
 returns-5 : tie.Need-returns-5
 returns-5 c =
     let back8 = c .before .before .before .before .before .before .before .before in
     let back16 = back8 .before .before .before .before .before .before .before .before in
-    let actions-in = back16 .actions-in in
+    let actions-in = back16 .before .actions-in in
     let a = actions-in .ensures .0 in
-    let b = back8 .before .before .before .before .before .components-in .ensures .0 in
-    let s = back8 .before .before .span-of .ensures in
+    let b = back8 .before .before .before .before .before .before .components-in .ensures .0 in
+    let s = back8 .before .before .before .span-of .ensures in
     λ D old K.
     let l = K .filled .says .actions in
     let w : actions-in .result - 1 + 1 ≡ length (D .actions) = omega arith in
     let S = s .1 .0 D _ (held-over K) (omega arith) .1 in
     literal-stopped K _ _ w (omega arith) (omega arith) S (omega arith)
-    (arguments-stop (held-over K) _ _ w (c .before .before .before .before .before .before .literal-shape .ensures) (omega arith)
-    (c .before .before .before .variables-of .ensures .0) (c .before .arguments-fault .ensures) (λ z. c .if5 .taken z))
-    (λ z. c .if5 .taken z)
+    (arguments-stop (held-over K) _ _ w (c .before .before .before .before .before .before .before .literal-shape .ensures) (omega arith)
+    (c .before .before .before .before .variables-of .ensures .0) (c .before .literal-arguments .ensures) (λ z. c .if6 .taken z))
+    (λ z. c .if6 .taken z)
 
 place-literal-requires : tie.Need-place-literal-requires
 place-literal-requires c κs =
-    let a = c .before .before .before .before .before .before .before .before .before .before .before .before .before .before .before .before .before .before .actions-in .ensures .0 in
-    let s = c .before .before .before .before .before .before .before .before .before .before .before .before .span-of .ensures in
-    let R = c .before .before .before .before .before .before .before .before .before .before .before .before .before .before .before .before .before .before .before .before .before .before .pre in
+    let a = c .before .before .before .before .before .before .before .before .before .before .before .before .before .before .before .before .before .actions-in .ensures .0 in
+    let s = c .before .before .before .before .before .before .before .before .before .before .before .span-of .ensures in
+    let R = c .before .before .before .before .before .before .before .before .before .before .before .before .before .before .before .before .before .before .before .before .before .pre in
     let K = R .holds in
     let l = K .filled .says .actions in
-    let w : c .before .before .before .before .before .before .before .before .before .before .before .before .before .before .before .before .before .before .actions-in .result - 1 + 1 ≡ length (R .sofar .actions) = omega arith in
+    let w : c .before .before .before .before .before .before .before .before .before .before .before .before .before .before .before .before .before .actions-in .result - 1 + 1 ≡ length (R .sofar .actions) = omega arith in
     let S = s .1 .0 (R .sofar) _ (held-over K) (omega arith) .1 in
     let n = span-size w S in
     let t = span-all w S in
-    let z : c .before .before .before .before .before .before .before .before .literal-shape .result ≡ 0 = omega arith in
-    let y : c .before .before .before .arguments-fault .result ≡ 0 = omega arith in
-    let f = literal-short _ _ _ (sym (c .before .before .before .before .before .before .before .before .literal-shape .ensures) ∙ z) in
+    let z : c .before .before .before .before .before .before .before .literal-shape .result ≡ 0 = omega arith in
+    let f = literal-short _ _ _ (sym (c .before .before .before .before .before .before .before .literal-shape .ensures) ∙ z) in
     let m = R .room (f .0) (omega arith) in
-    let v = c .before .before .before .before .before .variables-of .ensures .1 in
-    let e = told-every _ _ (omega arith) (c .before .before .before .before .any-from .result) (c .before .before .before .before .any-from .ensures) (sym (c .before .before .before .arguments-fault .ensures) ∙ y) in
+    let told : literalArguments (c .before .before .before .before .variables-of .result) (c .before .before .before .before .before .before .before .before .before .before .before .before .before .before .before .before .before .before .before .before .before .args .p .now) ≡ 0 =
+    ⊎-elim (λ w. let y : w .1 .result ≡ 0 = omega arith in sym (w .1 .ensures) ∙ y)
+    (λ w. let v = c .before .before .before .before .variables-of .ensures .1 in plain-arguments _ _ (omega arith) (sym (c .before .before .before .any-from .ensures) ∙ w .left)) (c .before .before .if5 .came) in
+    let v = c .before .before .before .before .variables-of .ensures .1 in
+    let e = told-every _ _ (omega arith) (c .before .before .before .any-from .result) (c .before .before .before .any-from .ensures) told in
     (omega arith, (omega arith, (s .1 .1, (omega arith, (omega arith, (f .0, (f .1, e)))))))
 
 returns-6 : tie.Need-returns-6
 returns-6 c =
     let back8 = c .before .before .before .before .before .before .before .before in
     let back16 = back8 .before .before .before .before .before .before .before .before in
-    let actions-in = back16 .before .before .before .before .before .actions-in in
+    let back24 = back16 .before .before .before .before .before .before .before .before in
+    let variables-of = c .before .before .before .before .before .before .before .variables-of in
+    let actions-in = back16 .before .before .before .before .actions-in in
+    let told : literalArguments (variables-of .result) (back24 .args .p .now) ≡ 0 =
+    ⊎-elim (λ w. let y : w .1 .result ≡ 0 = omega arith in sym (w .1 .ensures) ∙ y)
+    (λ w. let v = variables-of .ensures .1 in
+    plain-arguments _ _ (omega arith) (sym (c .before .before .before .before .before .before .any-from .ensures) ∙ w .left))
+    (c .before .before .before .before .before .if5 .came) in
     let a = actions-in .ensures .0 in
-    let b = back16 .before .before .components-in .ensures .0 in
-    let s = back8 .before .before .before .before .before .before .before .span-of .ensures in
+    let b = back16 .before .components-in .ensures .0 in
+    let s = back8 .before .before .before .before .before .before .span-of .ensures in
     λ D old K.
     let l = K .filled .says .actions in
     let w : actions-in .result - 1 + 1 ≡ length (D .actions) = omega arith in
     let S = s .1 .0 D _ (held-over K) (omega arith) .1 in
-    literal-placed K _ _ w (omega arith) (omega arith) S (omega arith) (back8 .before .before .before .literal-shape .ensures) (omega arith)
-    (back8 .variables-of .ensures .0) (c .before .before .before .before .before .before .arguments-fault .ensures) (omega arith)
-    (c .before .before .place-literal .ensures)
+    literal-placed K _ _ w (omega arith) (omega arith) S (omega arith) (back8 .before .before .literal-shape .ensures) (omega arith)
+    (variables-of .ensures .0) (sym told) refl (c .before .before .place-literal .ensures)
 
 pub take-literal-spec : {M : Type 1} → statement M
 take-literal-spec =
@@ -121,7 +132,7 @@ take-literal-spec =
     returns-4
     (λ c κs. search needs)  -- variables-of-requires
     (λ c κs. search needs)  -- any-from-requires
-    arguments-fault-requires
+    literal-arguments-requires
     returns-5
     place-literal-requires
     (λ c. search needs)  -- same-length
