@@ -330,7 +330,7 @@ fn is_same_at(
 }
 
 // Whether a literal of a class with this usage has the atom of the row `i`.
-fn any_same(rows: &[u8], numbers: &[u8], usages: &Marks, class: u8, usage: u8, i: usize) -> bool
+fn any_atom(rows: &[u8], numbers: &[u8], usages: &Marks, class: u8, usage: u8, i: usize) -> bool
     requires sides { ⌜ Sides (now rows) (now numbers) ⌝ }
     requires one { ⌜ i < length (now numbers) ⌝ }
     ensures { λ r. ⌜ r ≡ sameIn (now (rows .entry)) (now (numbers .entry)) (now (usages .entry)) class usage i ⌝ }
@@ -376,7 +376,7 @@ fn is_changed(rows: &[u8], numbers: &[u8], usages: &Marks, class: u8, i: usize) 
     requires one { ⌜ i < length (now numbers) ⌝ }
     ensures { λ r. ⌜ r ≡ changedAt (now (rows .entry)) (now (numbers .entry)) (now (usages .entry)) class i ⌝ }
 {
-    if any_same(rows, numbers, usages, class, 3, i) {
+    if any_atom(rows, numbers, usages, class, 3, i) {
         return true;
     }
     is_deleted(&rows[..], &numbers[..], usages, class, i)
@@ -412,7 +412,8 @@ fn is_cleared(label: u8, argument: u8) -> bool
 // Whether the first n arguments of the row `j` are FF where the component `c` has it.
 fn clears(head: &Head, rows: &[u8], c: usize, j: usize, n: usize) -> bool
     requires component { ⌜ c < maxComponents ⌝ }
-    requires row { ⌜ (8 * j + 8 ≤ length (now rows)) × (j < maxLiterals) ⌝ }
+    requires row { ⌜ 8 * j + 8 ≤ length (now rows) ⌝ }
+    requires literal { ⌜ j < maxLiterals ⌝ }
     requires arguments { ⌜ n ≤ maxArguments ⌝ }
     ensures { λ r. ⌜ r ≡ all (clearedAt (now (head .entry)) (now (rows .entry)) c j) (below n) ⌝ }
 {

@@ -74,7 +74,9 @@ fn number_literal(
 ) -> NumberedLiteral
     requires keys { ⌜ keys ≡ keysIn (now head) ⌝ }
     requires places { ⌜ PlacesOf (now head) (now places) ⌝ }
-    requires room { ⌜ (at + 8 ≤ length (now rows)) × (count < length (now words)) × (length (now words) ≡ maxLiterals) ⌝ }
+    requires row { ⌜ at + 8 ≤ length (now rows) ⌝ }
+    requires room { ⌜ count < length (now words) ⌝ }
+    requires words { ⌜ length (now words) ≡ maxLiterals ⌝ }
     ensures number { λ r. ⌜ r
         ≡ numberedBy (keyWordsIn (now (head .entry)) (take 8 (drop at (now (rows .entry))))) count (now (words .entry)) ⌝ }
     ensures words { λ _. ⌜ now (words .exit)
@@ -110,8 +112,9 @@ pub fn number_classes(
     words: &mut [u64],
 ) -> usize
     requires places { ⌜ PlacesOf (now head) (now places) ⌝ }
-    requires room { ⌜ (length (now rows) ≡ 8 * length (now numbers))
-        × (length (now numbers) ≤ maxLiterals) × (length (now words) ≡ maxLiterals) ⌝ }
+    requires rowed { ⌜ length (now rows) ≡ 8 * length (now numbers) ⌝ }
+    requires literals { ⌜ length (now numbers) ≤ maxLiterals ⌝ }
+    requires words { ⌜ length (now words) ≡ maxLiterals ⌝ }
     ensures few { λ r. ⌜ r ≤ length (now (numbers .entry)) ⌝ }
     ensures classes { λ r. ⌜ ((D : Domain) (a : Action) → ActionOf D a (now (head .entry)) (now (rows .entry))
         → (r ≡ length (classes D a)) × (now (numbers .exit) ≡ classNumbers D a)) ⌝ }

@@ -202,7 +202,8 @@ pub fn key_word(
 ) -> u64
     requires keys { ⌜ keys ≡ keysIn (now head) ⌝ }
     requires places { ⌜ PlacesOf (now head) (now places) ⌝ }
-    requires row { ⌜ (c < componentsIn (now head)) × (at + 8 ≤ length (now rows)) ⌝ }
+    requires component { ⌜ c < componentsIn (now head) ⌝ }
+    requires row { ⌜ at + 8 ≤ length (now rows) ⌝ }
     ensures { λ r. ⌜ r ≡ keyWord (keysIn (now (head .entry))) (componentRowIn (now (head .entry)) c)
         (take 8 (drop at (now (rows .entry)))) ⌝ }
 {

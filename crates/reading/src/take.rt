@@ -80,8 +80,10 @@ pub fn take_action(head: &mut Head, p: &[u8]) -> u64
 
 // The number that stops a literal beside the rows of its action: one is the same, or contradicts it.
 fn rows_stop(table: &[u8], span: Span, word: u64, p: &[u8]) -> u64
-    requires rows { ⌜ (span .from ≤ span .to) × (8 * span .to ≤ length (now table)) ⌝ }
-    requires short { ⌜ (2 ≤ length (now p)) × (length (now p) ≤ 8) ⌝ }
+    requires order { ⌜ span .from ≤ span .to ⌝ }
+    requires table { ⌜ 8 * span .to ≤ length (now table) ⌝ }
+    requires long { ⌜ 2 ≤ length (now p) ⌝ }
+    requires short { ⌜ length (now p) ≤ 8 ⌝ }
     requires word { ⌜ WordOf (rowOf (now p)) word ⌝ }
     ensures { λ r. ⌜ r ≡ rowsStop (rowOf (now (p .entry))) (rowsOf span (now (table .entry))) ⌝ }
 {

@@ -108,7 +108,8 @@ TotalRead =
 abbrev pub CountedApart : Type 0
 CountedApart =
     (b c out : List ℕ) (fs gs : List (List ℕ)) → opened b ≡ files fs → opened c ≡ files gs → length (b ++ c) < 256 ^ 8
-    → totalsSize ≤ length out → (n : ℕ) → n < totalCount → totalIn (totalsAfter (b ++ c) out) n ≡ totalIn (totalsAfter b out) n + totalIn (totalsAfter c out) n
+    → totalsSize ≤ length out → (n : ℕ) → n < totalCount
+    → totalIn (totalsAfter (b ++ c) out) n ≡ totalIn (totalsAfter b out) n + totalIn (totalsAfter c out) n
 
 -- ---- of a call: the box, the number answered, and the memory afterwards
 

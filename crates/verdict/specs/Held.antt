@@ -48,7 +48,8 @@ isNowhere (At c m) = false
 
 -- a summary that has nothing for the decision
 abbrev pub isSilent : Summary → Bool
-isSilent s = not (s .endless) && (isNowhere (s .heavy) && (isNowhere (s .unbalanced) && (isNowhere (s .unbounded) && isNowhere (s .bounded))))
+isSilent s = not (s .endless) &&
+    (isNowhere (s .heavy) && (isNowhere (s .unbalanced) && (isNowhere (s .unbounded) && isNowhere (s .bounded))))
 
 -- ---- rows "in the witness's form"
 

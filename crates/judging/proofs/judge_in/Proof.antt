@@ -27,12 +27,9 @@ judge-with-requires c κs =
 
 returns-2 : tie.Need-returns-2
 returns-2 c =
-    let back8 = c .before .before .before .before .before .before .before .before in
-    let back16 = back8 .before .before .before .before .before .before .before .before in
-    let back24 = back16 .before .before .before .before .before .before .before .before in
-    let file = back24 .before .before .before .args .file .now in
-    let o = opened file _ _ _ (back16 .before .before .read-domain .ensures .0) (omega arith) in
-    leaves-read (o .said) (o .decoded) (back8 .judge-with .ensures (o .said) (o .held) (decoded-well-formed file (o .said) (o .decoded)))
+    let file = c .before .before .before .before .before .before .before .before .before .before .before .before .before .before .before .before .before .before .before .before .before .before .before .before .before .before .before .args .file .now in
+    let o = opened file _ _ _ (c .before .before .before .before .before .before .before .before .before .before .before .before .before .before .before .before .before .before .read-domain .ensures .0) (omega arith) in
+    leaves-read (o .said) (o .decoded) (c .before .before .before .before .before .before .before .before .judge-with .ensures (o .said) (o .held) (decoded-well-formed file (o .said) (o .decoded)))
 
 pub judge-in-spec : {M : Type 1} → statement M
 judge-in-spec =

@@ -9,7 +9,7 @@ use Rattle.naming.proofs.name_action.Tie as tie
 
 number-classes-requires : tie.Need-number-classes-requires
 number-classes-requires c κs = let p = c .before .before .before .before .before .before .pre in
-    (p .0, (p .1 .0, p .1 .1 .0, p .1 .1 .1 .0))
+    (p .0, (p .1 .0, (p .1 .1 .0, p .1 .1 .1 .0)))
 
 name-classes-requires : tie.Need-name-classes-requires
 name-classes-requires c κs =

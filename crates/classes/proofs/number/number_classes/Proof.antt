@@ -21,7 +21,7 @@ number-literal-requires : tie.Need-number-literal-requires Inv-loop μ-loop
 number-literal-requires c κs =
     let w = c .before .before .loop .inv .few in
     let r = c .before .before .loop .inv .room in
-    (c .before .before .before .keys-in .ensures .0, (c .before .before .before .before .before .before .before .pre .0, (omega arith, omega arith, omega arith)))
+    (c .before .before .before .keys-in .ensures .0, (c .before .before .before .before .before .before .before .pre .0, (omega arith, (omega arith, omega arith))))
 
 slice-write-numbers : tie.Need-slice-write-numbers Inv-loop μ-loop
 slice-write-numbers c = let w = c .before .before .before .before .before .loop .inv .whole in omega arith

@@ -24,7 +24,7 @@ summary-of-requires c κs =
     (omega arith, c .before .before .before .before .before .before .put-places .ensures refl)
 
 cast-join : tie.Need-cast-join Inv-loop μ-loop
-cast-join c = let n = c .actions-in .ensures .1 in let t = c .loop-test .taken in omega arith
+cast-join c = let n = c .before .before .before .before .actions-in .ensures .1 in let t = c .before .before .loop-test .taken in omega arith
 
 loop-again : tie.Need-loop-again Inv-loop μ-loop
 loop-again c =

@@ -1,4 +1,4 @@
--- `any_same` meets its contract: no row before j is one, so the test is that of the rows left. Assumes nothing.
+-- `any_atom` meets its contract: no row before j is one, so the test is that of the rows left. Assumes nothing.
 use native.Mathlib.Omega.{arith}
 use borrow.Author.Needs.{needs}
 use mathlib.Core.Path.{_≡_, sym, ap, _∙_}
@@ -7,8 +7,8 @@ use lib.ListN.{length}
 use Rattle.records.specs.Lists.{any}
 use Rattle.classes.specs.Held.{isSameAt, sameIn}
 use Rattle.literals.proofs.Indices.{left, left-all, any-hit, any-miss, any-end}
-use Rattle.classes.proofs.names.any_same.Statement.{statement}
-use Rattle.classes.proofs.names.any_same.Tie as tie
+use Rattle.classes.proofs.names.any_atom.Statement.{statement}
+use Rattle.classes.proofs.names.any_atom.Tie as tie
 
 abbrev Inv-loop : tie.InvT-loop
 Inv-loop rows numbers usages class usage i j₀ j-end j =
@@ -43,8 +43,8 @@ returns-2 c =
     let a = turn .before .before .before .args in
     sym (any-end (isSameAt (a .rows .now) (a .numbers .now) (a .usages .now) (a .class) (a .usage) (a .i)) (length (a .numbers .now)) (turn .loop .j) (omega arith)) ∙ turn .loop .inv
 
-pub any-same-spec : {M : Type 1} → statement M
-any-same-spec =
+pub any-atom-spec : {M : Type 1} → statement M
+any-atom-spec =
     tie.close
     (tie.spec
     Inv-loop
