@@ -6,6 +6,9 @@ use borrow.Author.Needs.{needs}
 use Rattle.reading.proofs.take.place_literal.Statement.{statement}
 use Rattle.reading.proofs.take.place_literal.Tie as tie
 
+rows-stop-requires : tie.Need-rows-stop-requires
+rows-stop-requires c κs = (omega arith, (omega arith, (omega arith, (omega arith, c .before .row-word .ensures))))
+
 returns : tie.Need-returns
 returns c =
     let back8 = c .before .before .before .before .before .before .before .before in
@@ -32,7 +35,7 @@ place-literal-spec =
     tie.close
     (tie.spec
     (λ c κs. search needs)  -- row-word-requires
-    (λ c κs. search needs)  -- rows-stop-requires
+    rows-stop-requires
     (λ c. search needs)  -- mul-put-word
     (λ c κs. search needs)  -- put-word-requires
     (λ c. search needs)  -- sub-add-literal
