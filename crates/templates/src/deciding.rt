@@ -141,7 +141,7 @@ pub fn decide_alone(head: &Head, table: &[u8], relation: u8) -> u64
     let mut notes = Notes::new();
     for i in 0..actions_in(head) {
         let summary = summary_of(head, table, &places, i, relation);
-        notes = notes.join(i as u8, summary);
+        notes = notes.with(i as u8, summary);
     }
     let decided = notes.decide();
     decided.number

@@ -236,8 +236,8 @@ impl Notes {
         }
     }
 
-    // The notes with the summary of one action more, the action i.
-    pub fn join(self, i: u8, summary: Summary) -> Notes
+    // The notes joined with the summary of one action more, the action i.
+    fn join(self, i: u8, summary: Summary) -> Notes
         ensures { λ r. ⌜ ((ss : List Summary) → i ≡ length ss → self ≡ notesOf ss → r ≡ notesOf (ss ++ (summary ∷ []))) ⌝ }
     {
         let heavy = self.heavy;
@@ -253,8 +253,7 @@ impl Notes {
         }
     }
 
-    // The same, where most summaries have nothing for the decision: that is asked first. (It is small enough to be put into its caller
-    // while `join` has another.)
+    // The notes with the summary of one action more, the action i. Most summaries have nothing for the decision, which is asked first.
     pub fn with(self, i: u8, summary: Summary) -> Notes
         ensures { λ r. ⌜ ((ss : List Summary) → i ≡ length ss → self ≡ notesOf ss → r ≡ notesOf (ss ++ (summary ∷ []))) ⌝ }
     {

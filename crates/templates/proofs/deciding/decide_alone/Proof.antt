@@ -23,8 +23,8 @@ summary-of-requires c κs =
     let few = c .before .before .before .actions-in .ensures .0 in
     (omega arith, c .before .before .before .before .before .before .put-places .ensures refl)
 
-cast-join : tie.Need-cast-join Inv-loop μ-loop
-cast-join c = let n = c .before .before .before .before .actions-in .ensures .1 in let t = c .before .before .loop-test .taken in omega arith
+cast-with : tie.Need-cast-with Inv-loop μ-loop
+cast-with c = let n = c .before .before .before .before .actions-in .ensures .1 in let t = c .before .before .loop-test .taken in omega arith
 
 loop-again : tie.Need-loop-again Inv-loop μ-loop
 loop-again c =
@@ -36,7 +36,7 @@ loop-again c =
           λ D H wf only.
           let m = H .says .actions in
           let h : l .i < length (D .actions) = omega arith in
-          noted-action D (l .i) h (l .inv .noted D H wf only) (c .before .summary-of .ensures D H wf h only) (c .join .ensures);
+          noted-action D (l .i) h (l .inv .noted D H wf only) (c .before .summary-of .ensures D H wf h only) (c .with .ensures);
     }
 
 returns : tie.Need-returns Inv-loop μ-loop
@@ -60,8 +60,8 @@ decide-alone-spec =
     (λ c κs. search needs)  -- actions-in-requires
     loop-holds
     summary-of-requires
-    cast-join
-    (λ c κs. search needs)  -- join-requires
+    cast-with
+    (λ c κs. search needs)  -- with-requires
     (λ c. search needs)  -- add-i
     (λ c. omega arith)  -- loop-less
     loop-again
