@@ -1,4 +1,6 @@
 // Classes of an action: their names (here), their numbers (number), and what a class has at a moment (names).
+#![tactic(auto)]
+
 pub mod names;
 pub mod number;
 
@@ -8,7 +10,7 @@ ghost use Rattle.classes.specs.Classes.{name_number};
 use literals::limits::MAX_LITERALS;
 
 // The names of a class at a moment, in the order of their tests.
-#[derive(Drop)]
+#[derive(Clone, Copy)]
 pub enum Name {
     Unreachable,
     Irrelevant,
@@ -34,7 +36,7 @@ pub const AT_END: usize = 2;
 pub const ASKED: usize = 4;
 
 // The true conditions and the adds of a class at a moment: 0 for none, k + 1 for the literal k alone, 255 for more.
-#[derive(Drop)]
+#[derive(Clone, Copy)]
 pub struct Sole {
     pub conditions: u8,
     pub adds: u8,

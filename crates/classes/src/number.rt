@@ -13,7 +13,7 @@ use literals::keys::{KeyPlaces, component_of, key_tuple, key_word, marked_by};
 use records::bytes::found_or_equal;
 
 // The number of a literal's class, FF where it does not match, and the number of classes with it.
-#[derive(Drop)]
+#[derive(Clone, Copy)]
 struct NumberedLiteral {
     class: u8,
     count: usize,

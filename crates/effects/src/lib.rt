@@ -1,4 +1,6 @@
 // The facts after a step: what it strikes goes out, then what it adds joins, each fact once.
+#![tactic(auto)]
+
 ghost use Rattle.std.specs.Prelude.{◌≡◌, List, [], ◌∷◌, ◌++◌, map, ◌+◌, ◌*◌, ◌<◌, ◌≤◌, length, get_or, take, drop};
 ghost use Rattle.records.specs.Memory.{over};
 ghost use Rattle.records.specs.Lists.{any};
@@ -304,7 +306,7 @@ pub fn step_effects(scratch: &mut [u8], at: usize, total: usize, usage: u8) -> u
 }
 
 // What a step leaves: how many of the facts before it are kept, and how many facts there are, 1,025 where they are too many.
-#[derive(Drop)]
+#[derive(Clone, Copy)]
 pub struct After {
     pub kept: usize,
     pub facts: usize,

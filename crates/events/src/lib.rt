@@ -1,6 +1,8 @@
 // Events and open entries as the code holds them (here); the literals of an action as rows (facts), those of events as they count at
 // a time, ground, in one memory (grounding); events that wait for the close of their step (waits), the list of open lasting actions
 // (openings).
+#![tactic(auto)]
+
 pub mod facts;
 pub mod grounding;
 pub mod openings;

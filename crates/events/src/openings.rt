@@ -17,7 +17,7 @@ use literals::limits::{MAX_EVENTS, MAX_RUNNING};
 use records::bytes::{put_bytes, put_zeros, wide};
 
 // How many entries there are once the starts are added, where they fit.
-#[derive(Drop)]
+#[derive(Clone, Copy)]
 pub struct Joined {
     pub fits: bool,
     pub count: usize,

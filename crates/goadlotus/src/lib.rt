@@ -1,4 +1,6 @@
 // The library for C and Rust: no call asks anything of its caller beyond memory that it may read and write.
+#![tactic(auto)]
+
 ghost use Rattle.std.specs.Prelude.{◌≡◌};
 ghost use Rattle.verdict.specs.Judged.{judged, report_after, witness_after};
 ghost use Rattle.verdict.specs.Claims.{DecidesFile, AcceptedSafe, RefusedHarmful, WitnessHarms};

@@ -1,5 +1,7 @@
 // Journeys of what is open: which classes of an action are journeys, how many of an open entry's belong to an instance, and the total
 // that is told of it, which is its weight and those.
+#![tactic(auto)]
+
 ghost use Rattle.std.specs.Prelude.{◌≡◌, true, ◌&&◌, ℕ, ◌+◌, ◌*◌, ◌<◌, ◌≤◌, length, get_or};
 ghost use mathlib.Core.List.{List, [], map, foldr};
 ghost use Rattle.records.specs.Lists.{In, add_if, same_list};

@@ -1,4 +1,6 @@
 // The call that judges: a domain file, a lent report and a lent witness.
+#![tactic(auto)]
+
 pub mod report;
 
 ghost use Rattle.std.specs.Prelude.{◌≡◌, true, List, ℕ, ◌*◌, ◌≤◌, length};

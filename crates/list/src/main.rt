@@ -1,4 +1,6 @@
 // Lists the domain file on standard input.
+#![tactic(auto)]
+
 use libc::STDIN_FILENO;
 use print_verdict::files::DOMAIN_ROOM;
 

@@ -1,4 +1,6 @@
 // Lists each domain file that its arguments name.
+#![tactic(auto)]
+
 use libc::STDOUT_FILENO;
 use print_verdict::files::DOMAIN_ROOM;
 

@@ -1,5 +1,7 @@
 // A domain: numberings, moments, roles and labels (here); a domain that was read (head); the fields of a record (fields); the rows of the
 // literal table (row), and those of one action (span); key tuples (keys).
+#![tactic(auto)]
+
 pub mod fields;
 pub mod head;
 pub mod keys;
@@ -14,38 +16,38 @@ ghost use Rattle.literals.specs.Held.{usage_for};
 ghost use Rattle.literals.specs.Matching.{moment_number};
 
 // Variables, objects and keys are three separate numberings, each from 0.
-#[derive(Drop)]
+#[derive(Clone, Copy)]
 pub struct Variable(pub u8);
 
-#[derive(Drop)]
+#[derive(Clone, Copy)]
 pub struct Object(pub u8);
 
-#[derive(Drop)]
+#[derive(Clone, Copy)]
 pub struct Key(pub u8);
 
 // One label of a component: a key, or the counted argument.
-#[derive(Drop)]
+#[derive(Clone, Copy)]
 pub enum Label {
     Key(Key),
     Counted,
 }
 
 // One argument of a literal: a variable, or every object.
-#[derive(Drop)]
+#[derive(Clone, Copy)]
 pub enum Argument {
     Variable(Variable),
     Every,
 }
 
 // A moment of an action: an action at once has its start alone.
-#[derive(Drop)]
+#[derive(Clone, Copy)]
 pub enum Moment {
     Start,
     End,
 }
 
 // When a literal of a lasting action counts; a literal of an action at once counts at the start.
-#[derive(Drop)]
+#[derive(Clone, Copy)]
 pub enum Time {
     AtStart,
     OverAll,
@@ -53,7 +55,7 @@ pub enum Time {
 }
 
 // What a literal is there: true condition, false condition, add, delete.
-#[derive(Drop)]
+#[derive(Clone, Copy)]
 pub enum Usage {
     Positive,
     Negative,
@@ -61,7 +63,7 @@ pub enum Usage {
     Delete,
 }
 
-#[derive(Drop)]
+#[derive(Clone, Copy)]
 pub struct Role {
     pub time: Time,
     pub usage: Usage,
@@ -69,7 +71,7 @@ pub struct Role {
 
 // What stops a record: its number, and how far behind the record's start the fault stands, 0 for the record itself. Number 0 where
 // nothing stops it.
-#[derive(Drop)]
+#[derive(Clone, Copy)]
 pub struct RecordFault {
     pub number: u64,
     pub within: u8,

@@ -28,7 +28,7 @@ use store::index::{FactIndex, NOTE};
 use store::weighing::top_from;
 
 // What closing a step led to: 0 and the state after it, or the number that refuses it and the state as it was; and the highest weight.
-#[derive(Drop)]
+#[derive(Clone, Copy)]
 pub struct Closed {
     pub number: u64,
     pub state: State,
@@ -36,7 +36,7 @@ pub struct Closed {
 }
 
 // Whether a step may be taken: the number that forbids it, or 0 and how many ground literals it has.
-#[derive(Drop)]
+#[derive(Clone, Copy)]
 struct Asked {
     number: u64,
     literals: usize,

@@ -1,4 +1,6 @@
 // The names of all moments, in the order of the report.
+#![tactic(auto)]
+
 ghost use Rattle.std.specs.Prelude.{◌≡◌, true, List, [], ◌∷◌, ◌++◌, map, ℕ, ◌+◌, ◌*◌, ◌≤◌, ◌<◌, length, get_or};
 ghost use Rattle.records.specs.Memory.{over};
 ghost use Rattle.literals.specs.Domain.{Domain, Action};
@@ -26,7 +28,7 @@ use verdict::{Notes, Summary};
 pub type ClassCounts = [u8; MAX_ACTIONS];
 
 // The names of one class: at its start, and at its end where the action lasts.
-#[derive(Drop)]
+#[derive(Clone, Copy)]
 pub struct ClassNames {
     pub start: Name,
     pub end: Name,
@@ -34,7 +36,7 @@ pub struct ClassNames {
 }
 
 // An action whose classes are numbered: how many rows of the domain come before its own, how many classes it has, and whether it lasts.
-#[derive(Drop)]
+#[derive(Clone, Copy)]
 pub struct NumberedAction {
     pub rows: usize,
     pub classes: usize,
@@ -42,14 +44,14 @@ pub struct NumberedAction {
 }
 
 // Where naming an action stands: how many rows of the domain are named, and the summary of the action's own.
-#[derive(Drop)]
+#[derive(Clone, Copy)]
 pub struct Naming {
     pub rows: usize,
     pub summary: Summary,
 }
 
 // An action that is named: how many rows of the domain are named with its own, how many classes it has, and its summary.
-#[derive(Drop)]
+#[derive(Clone, Copy)]
 pub struct NamedAction {
     pub rows: usize,
     pub classes: usize,
@@ -57,7 +59,7 @@ pub struct NamedAction {
 }
 
 // A domain that is named: how many rows it has, and what its decision is made of.
-#[derive(Drop)]
+#[derive(Clone, Copy)]
 pub struct NamedDomain {
     pub rows: usize,
     pub notes: Notes,

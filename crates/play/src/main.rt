@@ -1,4 +1,6 @@
 // Plays the run file that its second argument names on the domain file that its first names.
+#![tactic(auto)]
+
 use libc::STDERR_FILENO;
 
 fn main() {

@@ -1,4 +1,6 @@
 // Plays each pair of files that its arguments name, a domain file and a run file, and prints the names above what comes of them.
+#![tactic(auto)]
+
 use libc::STDOUT_FILENO;
 
 fn play_pair(domain_at: usize, run_at: usize) {

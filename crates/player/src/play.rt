@@ -18,14 +18,14 @@ use reading::read::read_domain;
 const SMALL: usize = 512;
 
 // Where the record at fault starts: an offset of the domain file, or of the run file.
-#[derive(Drop)]
+#[derive(Clone, Copy)]
 pub enum Fault {
     Domain(usize),
     Run(usize),
 }
 
 // The answer: the number (2 when the run was played), its place, the steps made, the highest weight, and the record at fault.
-#[derive(Drop)]
+#[derive(Clone, Copy)]
 pub struct PlayAnswer {
     pub number: u64,
     pub place: usize,
@@ -35,7 +35,7 @@ pub struct PlayAnswer {
 }
 
 // The same with the total of an instance.
-#[derive(Drop)]
+#[derive(Clone, Copy)]
 pub struct Tracked {
     pub played: PlayAnswer,
     pub total: usize,

@@ -21,7 +21,7 @@ pub const WORK: usize = 8 * MAX_FACTS;
 
 // How a run ended: the number (2 when it was played), the offset of the record at fault, whether the start was over, what was counted,
 // and how many facts are held and how many entries are open.
-#[derive(Drop)]
+#[derive(Clone, Copy)]
 pub struct Ended {
     pub number: u64,
     pub place: usize,

@@ -1,4 +1,6 @@
 // Plays two files that a program names: reads them, and prints what the run leads to.
+#![tactic(auto)]
+
 mod facts;
 
 ghost use Rattle.std.specs.Prelude.{◌≡◌, length};

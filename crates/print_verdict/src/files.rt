@@ -8,7 +8,7 @@ use literals::limits::MAX_FILE;
 pub const DOMAIN_ROOM: usize = MAX_FILE + 1;
 
 // Whether a file was read, and how many bytes of it: all, or as many as there was room for.
-#[derive(Drop)]
+#[derive(Clone, Copy)]
 pub struct FileRead {
     pub is_read: bool,
     pub count: usize,

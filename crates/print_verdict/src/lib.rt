@@ -1,5 +1,7 @@
 // What the programs share: the verdict of a domain file printed with its rows, and lines of words and numbers (here); a file read by its
 // name (files).
+#![tactic(auto)]
+
 pub mod files;
 
 use libc::STDOUT_FILENO;

@@ -12,7 +12,7 @@ use records::bytes::wide;
 use records::{Record, record_at};
 
 // What one record led to: 0 where reading goes on, 1 where the file is read, else the number that refuses it, with its place.
-#[derive(Drop)]
+#[derive(Clone, Copy)]
 pub struct Stepped {
     pub number: u64,
     pub place: usize,

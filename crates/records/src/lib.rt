@@ -1,11 +1,13 @@
 // A file is a row of records: payload length (2 bytes, little-endian), kind (2 bytes), payload. Functions on bytes are in bytes.
+#![tactic(auto)]
+
 pub mod bytes;
 
 ghost use Rattle.std.specs.Prelude.{◌≡◌, ◌+◌, ◌<◌, length};
 ghost use Rattle.records.specs.Record.{record_at, word};
 
 // What stands at an offset of a file.
-#[derive(Drop)]
+#[derive(Clone, Copy)]
 pub enum Record {
     // A whole record of this kind: its payload starts at `start` and is `len` bytes long.
     Whole { kind: u16, start: usize, len: usize },

@@ -1,5 +1,7 @@
 // The fields of a run file's records: each check answers the number that stops its record, or 0. And what a record that passes
 // adds: a row of a fact, an event that waits.
+#![tactic(auto)]
+
 ghost use Rattle.std.specs.Prelude.{◌≡◌, ◌&&◌, not, List, map, ◌+◌, ◌*◌, ◌<◌, ◌≤◌, eqb, length, get_or, drop};
 ghost use Rattle.std.proofs.Math.Seq.{paste};
 ghost use Rattle.records.specs.Lists.{any, distinct, below};

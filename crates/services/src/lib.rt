@@ -1,4 +1,6 @@
 // What services on one file have in common: the bytes made for its domain are handed over whole, or not at all.
+#![tactic(auto)]
+
 ghost use Rattle.services.specs.Service.{DeliveredAs};
 
 use records::bytes::put_bytes;

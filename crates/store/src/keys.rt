@@ -7,7 +7,7 @@ use literals::head::{Head, components_in};
 use literals::keys::{component_of, key_tuple};
 
 // The key tuple of a fact, as a row, where its relation has a component.
-#[derive(Drop)]
+#[derive(Clone, Copy)]
 pub struct Keyed {
     pub matched: bool,
     pub row: [u8; 8],

@@ -1,5 +1,7 @@
 // "Every one-relation template, listed": the call (here), the component of a template (shapes), its verdict (deciding), the entries
 // (entries).
+#![tactic(auto)]
+
 pub mod deciding;
 pub mod entries;
 pub mod shapes;

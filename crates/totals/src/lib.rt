@@ -1,4 +1,6 @@
 // The call that counts: a box of domain files, and lent memory for its totals.
+#![tactic(auto)]
+
 pub mod boxes;
 pub mod counting;
 pub mod written;
@@ -13,7 +15,7 @@ use counting::count_files;
 use written::put_totals;
 
 // A whole box, or the offset of the length at which it is cut.
-#[derive(Drop)]
+#[derive(Clone, Copy)]
 pub enum Opening {
     Whole,
     Cut(usize),

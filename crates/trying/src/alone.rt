@@ -17,7 +17,7 @@ use records::bytes::put_bytes;
 use store::index::{FACT_INDEX, FactIndex, enter};
 
 // What an action brings with it: how many variables it has, how many ground literals, and how many true conditions.
-#[derive(Drop)]
+#[derive(Clone, Copy)]
 pub struct Base {
     pub variables: u8,
     pub literals: usize,
@@ -25,7 +25,7 @@ pub struct Base {
 }
 
 // Besides, what the step from the true conditions comes to: whether it is allowed, and how many facts it leaves.
-#[derive(Drop)]
+#[derive(Clone, Copy)]
 pub struct Alone {
     pub variables: u8,
     pub literals: usize,

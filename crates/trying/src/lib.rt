@@ -1,5 +1,7 @@
 // "Trying the facts themselves": the call (here), the answers of a domain (actions) and of an action (answers); the event with its ground
 // literals (plain), one step of the machine from its true conditions (alone), and the further facts that change what it leaves (free).
+#![tactic(auto)]
+
 pub mod actions;
 pub mod alone;
 pub mod answers;

@@ -1,4 +1,6 @@
 // The decision of a template: per action a summary of its moments' names, and the decision from the summaries of all actions.
+#![tactic(auto)]
+
 ghost use Rattle.std.specs.Prelude.{◌≡◌, List, [], ◌∷◌, ◌++◌, ℕ, length};
 ghost use Rattle.verdict.specs.declared.Summary.{Summary};
 ghost use Rattle.verdict.specs.Decision.{Row};
@@ -10,7 +12,7 @@ use classes::Name;
 use literals::{Moment, moment_number};
 
 // An answer: the number and three places.
-#[derive(Drop)]
+#[derive(Clone, Copy)]
 pub struct Judgement {
     pub number: u64,
     pub first: u64,
@@ -19,7 +21,7 @@ pub struct Judgement {
 }
 
 // A moment of a class of one action, or none.
-#[derive(Drop)]
+#[derive(Clone, Copy)]
 pub enum Spot {
     Nowhere,
     At { class: u8, moment: Moment },
@@ -27,7 +29,7 @@ pub enum Spot {
 
 // What the decision needs of one action: its first moments that are refused by 40, by 41 and by 42, its first bounded one outside a
 // journey's end, and whether one is unbounded, at a journey's end too.
-#[derive(Drop)]
+#[derive(Clone, Copy)]
 pub struct Summary {
     pub heavy: Spot,
     pub unbalanced: Spot,
@@ -37,7 +39,7 @@ pub struct Summary {
 }
 
 // A moment of a class of an action, or none.
-#[derive(Drop)]
+#[derive(Clone, Copy)]
 pub enum Place {
     Missing,
     Found {
@@ -48,7 +50,7 @@ pub enum Place {
 }
 
 // What the decision is made of: of the summaries of all actions the first place of each sort, and whether a moment is unbounded.
-#[derive(Drop)]
+#[derive(Clone, Copy)]
 pub struct Notes {
     pub heavy: Place,
     pub unbalanced: Place,

@@ -1,4 +1,6 @@
 // The witness: 8 bytes a fact (relation, arity, arguments, FF to fill), variable i as object i.
+#![tactic(auto)]
+
 ghost use Rattle.std.specs.Prelude.{◌≡◌, true, List, [], ℕ, ◌+◌, ◌*◌, ◌≤◌, ◌<◌, length, get_or, take, drop};
 ghost use Rattle.std.proofs.Math.Seq.{paste};
 ghost use Rattle.records.specs.Lists.{count_by};
