@@ -1,0 +1,12 @@
+-- `is_delete_at` meets its contract, test by test. Assumes nothing.
+use mathlib.Core.Path.{sym, ◌∙◌}
+use Rattle.classes.specs.Held.{meet_at, is_delete_at}
+use Rattle.classes.proofs.names.is_delete_at.Goals as goal
+
+pub returns-then-is_at : goal.returns-then-is_at
+unfolding is_delete_at meet_at
+returns-then-is_at c = rw (sym c.is_at.ensures ∙ c.if-is_at.true) c.rows_meet.ensures
+
+pub returns : goal.returns
+unfolding is_delete_at
+returns c = rw (sym c.is_at.ensures ∙ c.if-is_at.false)

@@ -1,0 +1,10 @@
+-- `close_all` meets its contract: the ends before event i have left, so the answer is that of those from it on. Assumes nothing.
+use mathlib.Core.Path.{◌≡◌}
+use Prim.Native.Nat.{◌-◌, ◌*◌, ◌≤◌}
+use lib.ListN.{length, drop}
+use Rattle.events.specs.Held.{events_in, close_events}
+use Rattle.events.proofs.openings.close_all.Given as goal
+
+abbrev pub invariant-loop-i : goal.invariant-loop-i
+invariant-loop-i l = (l.i ≤ l.count) × (l.left ≤ 32) × (length l.rows ≡ length l.initial.rows)
+    × (close_events (events_in (l.count - l.i) (drop l.i l.moments) (drop (17 * l.i) l.events)) (record { l.count = l.left; l.rows = l.rows }) ≡ close_events (events_in l.count l.moments l.events) (record { l.count = l.n; l.rows = l.initial.rows }))

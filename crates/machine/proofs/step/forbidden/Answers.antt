@@ -1,0 +1,107 @@
+-- `forbidden` meets its contract: the tests in their order. Assumes nothing.
+use mathlib.Core.Path.{sym, ap, ◌∙◌}
+use native.Mathlib.Omega.{arith}
+use Rattle.records.proofs.Lists.{not_true, not_false}
+use Rattle.events.proofs.FactRows.{waiting_count}
+use Rattle.machine.specs.Held.{StateRows}
+use Rattle.machine.proofs.NextKept.{events_chosen, events_alone}
+use Rattle.machine.proofs.Closing.{not_open, not_met, not_kept, not_apart, nothing_forbids}
+use Rattle.machine.proofs.step.forbidden.Goals as goal
+
+pub returns-then-not-ends_open : goal.returns-then-not-ends_open
+returns-then-not-ends_open c =
+    let opens = c.ends_open in
+    let fails = c.if-not-ends_open.true in record { few = omega arith; asked = λ D objs s es lent some kept is rows held.
+          let r = ap (λ (x : StateRows). x.running) is in
+          let w = ap (λ (x : StateRows). x.waiting) is in
+          let ends = opens.ensures D s.running es lent.says.bounded kept.running kept.waiting kept.running_few
+          kept.waiting_few r w in
+          (not_open D objs s es (sym ends ∙ not_true _ fails), λ z. absurd (omega arith)) }
+
+pub returns-then-not-open_met : goal.returns-then-not-open_met
+returns-then-not-open_met c =
+    let opens = c.ends_open in
+    let keeps = c.open_met in
+    let all-open = c.if-not-ends_open.false in
+    let fails = c.if-not-open_met.true in record { few = omega arith; asked = λ D objs s es lent some kept is rows held.
+          let r = ap (λ (x : StateRows). x.running) is in
+          let w = ap (λ (x : StateRows). x.waiting) is in
+          let ends = opens.ensures D s.running es lent.says.bounded kept.running kept.waiting kept.running_few
+          kept.waiting_few r w in
+          let keep = keeps.ensures D s.running s.facts lent r kept.running kept.running_few rows held objs kept.chosen in
+          (not_kept D objs s es (sym ends ∙ not_false _ all-open) (sym keep ∙ not_true _ fails), λ z. absurd (omega arith)) }
+
+pub returns-then-not-events_met : goal.returns-then-not-events_met
+returns-then-not-events_met c =
+    let back8 = c in
+    let opens = back8.ends_open in
+    let grounds = c.ground_step-literals in
+    let mets = c.events_met in
+    let all-open = back8.if-not-ends_open.false in
+    let fails = c.if-not-events_met.true in record { few = omega arith; asked = λ D objs s es lent some kept is rows held.
+          let r = ap (λ (x : StateRows). x.running) is in
+          let w = ap (λ (x : StateRows). x.waiting) is in
+          let ends = opens.ensures D s.running es lent.says.bounded kept.running kept.waiting kept.running_few
+          kept.waiting_few r w in
+          let G = grounds.ensures.grounded D es lent w kept.waiting kept.waiting_few in
+          let met = mets.ensures D _ es s.facts G rows held objs (events_chosen kept) in
+          (not_met D objs s es (sym ends ∙ not_false _ all-open) (sym met ∙ not_true _ fails), λ z. absurd (omega arith)) }
+
+pub independent-requires : goal.independent-requires
+independent-requires c =
+    let back8 = c in
+    let back16 = back8 in
+    let keeps = back8.open_met in
+    let grounds = c.ground_step-literals in record { memory = grounds.auto.memory ∙ keeps.auto.memory ∙ back16.requires.memory; few = grounds.ensures.few }
+
+pub returns-then-not-independent : goal.returns-then-not-independent
+returns-then-not-independent c =
+    let back8 = c in
+    let back16 = back8 in
+    let opens = back16.ends_open in
+    let keeps = back8.open_met in
+    let grounds = back8.ground_step-literals in
+    let mets = c.events_met in
+    let aparts = c.independent in
+    let all-open = back8.if-not-ends_open.false in
+    let all-kept = back8.if-not-open_met.false in
+    let all-met = c.if-not-events_met.false in
+    let fails = c.if-not-independent.true in record { few = omega arith; asked = λ D objs s es lent some kept is rows held.
+          let r = ap (λ (x : StateRows). x.running) is in
+          let w = ap (λ (x : StateRows). x.waiting) is in
+          let ends = opens.ensures D s.running es lent.says.bounded kept.running kept.waiting kept.running_few
+          kept.waiting_few r w in
+          let keep = keeps.ensures D s.running s.facts lent r kept.running kept.running_few rows held objs kept.chosen in
+          let G = grounds.ensures.grounded D es lent w kept.waiting kept.waiting_few in
+          let met = mets.ensures D _ es s.facts G rows held objs (events_chosen kept) in
+          let apart = aparts.ensures D _ es G (sym (waiting_count es _ w)) kept.waiting_few objs some (events_alone kept) in (
+            not_apart D objs s es (sym ends ∙ not_false _ all-open) (sym met ∙ not_false _ all-met) (sym keep ∙ not_false _ all-kept)
+                (sym apart ∙ not_true _ fails),
+            λ z. absurd (omega arith),
+          ) }
+
+pub returns : goal.returns
+returns c =
+    let back8 = c in
+    let back16 = back8 in
+    let opens = back16.ends_open in
+    let keeps = back8.open_met in
+    let grounds = back8.ground_step-literals in
+    let mets = c.events_met in
+    let aparts = c.independent in
+    let all-open = back8.if-not-ends_open.false in
+    let all-kept = back8.if-not-open_met.false in
+    let all-met = c.if-not-events_met.false in
+    let All-apart = c.if-not-independent.false in record { few = grounds.ensures.few; asked = λ D objs s es lent some kept is rows held.
+          let r = ap (λ (x : StateRows). x.running) is in
+          let w = ap (λ (x : StateRows). x.waiting) is in
+          let ends = opens.ensures D s.running es lent.says.bounded kept.running kept.waiting kept.running_few
+          kept.waiting_few r w in
+          let keep = keeps.ensures D s.running s.facts lent r kept.running kept.running_few rows held objs kept.chosen in
+          let G = grounds.ensures.grounded D es lent w kept.waiting kept.waiting_few in
+          let met = mets.ensures D _ es s.facts G rows held objs (events_chosen kept) in
+          let apart = aparts.ensures D _ es G (sym (waiting_count es _ w)) kept.waiting_few objs some (events_alone kept) in (
+            nothing_forbids D objs s es (sym ends ∙ not_false _ all-open) (sym met ∙ not_false _ all-met) (sym keep ∙ not_false _ all-kept)
+                (sym apart ∙ not_false _ All-apart),
+            λ z. G,
+          ) }
