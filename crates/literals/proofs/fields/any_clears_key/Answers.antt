@@ -9,7 +9,7 @@ pub loop-i-init : goal.loop-i-init
 loop-i-init c = let a = c.args in (omega arith, any_first (key_cleared_in a.p.now) a.table.now a.n)
 
 pub clears_key-requires : goal.clears_key-requires
-clears_key-requires c = let h = c.requires in let all = (omega arith, h.1) in record { table = all.0; long = all.1.0; short = all.1.1 }
+clears_key-requires c = let h = c.requires in record { table = omega arith; long = h.long; short = h.short }
 
 pub returns-then-clears_key : goal.returns-then-clears_key
 returns-then-clears_key c =
