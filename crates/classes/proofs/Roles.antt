@@ -32,7 +32,7 @@ with_role_in rs (l ∷ ls) {p} m = go (λ k. with_role_in rs ls k) (in_keep_if (
     go ih (inl h) = (l, Memᴰ.head refl, h.0, h.1)
     go ih (inr k) = let r = ih k in (r.0, Memᴰ.tail r.1, r.2, r.3)
 
-pub in_with_role : (rs : Role → Bool) (ls : List Literal) {l : Literal} → In l ls → rs l.role ≡ true → In l.atom (with_role rs ls)
+pub in_with_role : (rs : Role → Bool) {l : Literal} (ls : List Literal) → In l ls → rs l.role ≡ true → In l.atom (with_role rs ls)
 in_with_role rs ls (Memᴰ.head {x = k} e) t =
     let u : rs k.role ≡ true = rw e at t in rw (e, u) (Memᴰ.head refl)
 in_with_role rs ls (Memᴰ.tail {x = k} {xs = ks} m) t = keep_if_tail (rs k.role) k.atom (in_with_role rs ks m t)

@@ -91,8 +91,8 @@ tuple_take s y (suc n) ls h k =
     ap₂ ◌++◌ (tuple_take s y n ls (omega arith) (and_l _ _ k))
     (one_list (under (key n) ls (map (object_under s y) ls)) (get_or y n (object 0)) (omega arith) (under_object s y (key n) ls)) ∙ sym (take-suc y n (object 0) h)
 
-in_tuples : {A : Type 0} (n : ℕ) (cs : List Component) (p : Atom A) {c : Component} → In c cs → is_of c p ≡ true → In (key_tuple n c.labels p.args) (tuples_by n cs p)
-in_tuples n cs p {c} (Memᴰ.head {x = d} e) h =
+in_tuples : {A : Type 0} (n : ℕ) {c : Component} (cs : List Component) (p : Atom A) → In c cs → is_of c p ≡ true → In (key_tuple n c.labels p.args) (tuples_by n cs p)
+in_tuples n {c} cs p (Memᴰ.head {x = d} e) h =
     let k : is_of d p ≡ true = rw e at h in rw k (Memᴰ.head (ap (λ (z : Component). key_tuple n z.labels p.args) e))
 in_tuples n cs p (Memᴰ.tail {x = d} {xs = ds} m) h = keep_if_tail (is_of d p) (key_tuple n d.labels p.args) (in_tuples n ds p m h)
 

@@ -198,13 +198,13 @@ module _ (fit : Fact → Bool) (v : Bool) where
         quiet e h l (leaves p vf s1 t0 hp dp fp none) = absurd (bare p (h.yes p hp) fp)
         quiet e h l (arrives b s0 t1 only) = absurd (omega arith)
 
-        small : (ds : List E) (e : E) → In e ds → sum t ds ≤ 0 → t e ≤ 0
-        small ds e (Memᴰ.head {x = x} p) l = rw p (omega arith)
-        small ds e (Memᴰ.tail {xs = xs} m) l = small xs e m (omega arith)
+        small : (e : E) (ds : List E) → In e ds → sum t ds ≤ 0 → t e ≤ 0
+        small e ds (Memᴰ.head {x = x} p) l = rw p (omega arith)
+        small e ds (Memᴰ.tail {xs = xs} m) l = small e xs m (omega arith)
 
         added : (f : Fact) → fit f ≡ true → After eff S es f → ⊥
         added f p (inl k) = bare f k.0 p
-        added f p (inr k) = (quiet k.0 (c k.0 k.1) (small es k.0 k.1 le) (a k.0 k.1)).0 f k.2 p
+        added f p (inr k) = (quiet k.0 (c k.0 k.1) (small k.0 es k.1 le) (a k.0 k.1)).0 f k.2 p
 
         all_zero : (ds : List E) → ((e : E) → In e ds → Holds S (eff e)) → ((e : E) → In e ds → Act (eff e) (s e) (t e)) → sum t ds ≤ 0 → sum s ds ≡ 0
         all_zero [] c a l = refl

@@ -24,7 +24,7 @@ returns-then-not-covers c =
     λ D b m M h.
     let few = M.whole.says.components in
     let n = turn.loop-c.invariant.2 in
-    let e = position_hit (lacks a.head.now a.rows.now a.numbers.now a.usages.now a.class) turn.components_in-n.result turn.loop-c.c (omega arith) (ap not (sym (c.covers.ensures D b m M h (omega arith))) ∙ c.if-not-covers.true) in
+    let e = position_hit (lacks a.head.now a.rows.now a.numbers.now a.usages.now a.class) turn.components_in-n.result turn.loop-c.c (omega arith) (ap not (sym (c.covers.ensures D b m M h (omega arith)) ∙ c.if-not-covers.true)) in
     let i = turn.loop-c.invariant.3 D b m M h in
     omega arith
 
@@ -38,7 +38,7 @@ loop-c-preserved c =
       n,
       λ D b m M h.
           let few = M.whole.says.components in
-          let e = position_miss (lacks a.head.now a.rows.now a.numbers.now a.usages.now a.class) turn.components_in-n.result turn.loop-c.c (omega arith) (ap not (sym (c.covers.ensures D b m M h (omega arith))) ∙ c.if-not-covers.false) in
+          let e = position_miss (lacks a.head.now a.rows.now a.numbers.now a.usages.now a.class) turn.components_in-n.result turn.loop-c.c (omega arith) (ap not (sym (c.covers.ensures D b m M h (omega arith)) ∙ c.if-not-covers.false)) in
           let i = turn.loop-c.invariant.3 D b m M h in
           omega arith,
     )

@@ -11,6 +11,7 @@ use Rattle.reading.proofs.Takes.{row_stop, held_over, not_zero, span_size, span_
 use Rattle.reading.proofs.Takes.{literal_short, told_every, shape_stop, arguments_stop_lem}
 use Rattle.reading.proofs.Written.{literal_stopped, literal_placed}
 use Rattle.reading.proofs.take.take_literal.Goals as goal
+use Rattle.reading.proofs.take.take_literal.Goals.{then-beyond+else-arguments-ne0, else-beyond}
 
 pub returns-then-n-eq0 : goal.returns-then-n-eq0
 returns-then-n-eq0 c =
@@ -86,8 +87,9 @@ place_literal-requires c =
     let f = literal_short _ _ _ (sym c.literal_shape-shape.ensures ∙ z) in
     let m = R.room f.0 (omega arith) in
     let told : literal_arguments c.variables_of-variables.result c.args.p.now ≡ 0 =
-    ⊎_elim (λ w. let y : w.1.result ≡ 0 = omega arith in sym w.1.ensures ∙ y)
-    (λ w. let v = c.variables_of-variables.ensures.few in plain_arguments _ _ (omega arith) (sym c.any_beyond-beyond.ensures ∙ w.left)) c.if-beyond.branch in
+    elim c.if-beyond.branch [
+      then-beyond+else-arguments-ne0 w ↦ let y : w.literal_arguments-arguments.result ≡ 0 = omega arith in sym w.literal_arguments-arguments.ensures ∙ y
+    | else-beyond w ↦ let v = c.variables_of-variables.ensures.few in plain_arguments _ _ (omega arith) (sym c.any_beyond-beyond.ensures ∙ w.if-beyond.false) ] in
     let v = c.variables_of-variables.ensures.few in
     let e = told_every _ _ (omega arith) c.any_beyond-beyond.result c.any_beyond-beyond.ensures told in
     record { latest = omega arith; actions = omega arith; size = s.size; few = omega arith; room = omega arith; long = f.0; short = f.1; every = e }
@@ -100,10 +102,9 @@ returns c =
     let variables-of = c.variables_of-variables in
     let actions-in = back16.actions_in-n in
     let told : literal_arguments variables-of.result back24.args.p.now ≡ 0 =
-    ⊎_elim (λ w. let y : w.1.result ≡ 0 = omega arith in sym w.1.ensures ∙ y)
-    (λ w. let v = variables-of.ensures.few in
-    plain_arguments _ _ (omega arith) (sym c.any_beyond-beyond.ensures ∙ w.left))
-    c.if-beyond.branch in
+    elim c.if-beyond.branch [
+      then-beyond+else-arguments-ne0 w ↦ let y : w.literal_arguments-arguments.result ≡ 0 = omega arith in sym w.literal_arguments-arguments.ensures ∙ y
+    | else-beyond w ↦ let v = variables-of.ensures.few in plain_arguments _ _ (omega arith) (sym c.any_beyond-beyond.ensures ∙ w.if-beyond.false) ] in
     let a = actions-in.ensures.number in
     let b = back16.components_in.ensures.number in
     let s = back8.span_of-span.ensures in
