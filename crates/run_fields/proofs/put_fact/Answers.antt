@@ -9,5 +9,5 @@ use Rattle.run_fields.proofs.put_fact.Goals as goal
 pub returns : goal.returns
 returns c =
     let a = c.args in
-    let l : length c.args.t3 ≡ 8 = search rules in
-    c.put_bytes.ensures ∙ ap (paste a.work.now (8 * a.n) a.t3) l
+    let l : length c.args.row ≡ 8 = search rules in
+    c.put_bytes.ensures ∙ ap (paste a.work.now (8 * a.n) a.row) l

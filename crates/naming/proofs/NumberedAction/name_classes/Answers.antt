@@ -1,4 +1,5 @@
 -- `NumberedAction::name_classes` meets its contract: each class by the usages of both moments. Assumes nothing.
+use Rattle.records.proofs.Lists.{not_true}
 use mathlib.Core.Path.{refl, ap, ◌∙◌}
 use mathlib.Core.Bool.{true}
 use native.Mathlib.Omega.{arith}
@@ -17,7 +18,7 @@ name_each-requires c =
     let p = back8.requires in
     let soles = back8.note_soles.ensures refl in
     let first = start_soles a.rows.now a.numbers.now _ _ soles
-    (c.usages_at.ensures.bytes refl) in record { sides = record { rowed = omega arith; few = p.literals }; first = first; last = (λ k. absurd (clash k (c.if-not-self.true))); few = p.few; room = p.room }
+    (c.usages_at.ensures.bytes refl) in record { sides = record { rowed = omega arith; few = p.literals }; first = first; last = (λ k. absurd (clash k (not_true _ c.if-not-self.true))); few = p.few; room = p.room }
 
 pub returns-then-not-self : goal.returns-then-not-self
 returns-then-not-self c =
@@ -28,7 +29,7 @@ returns-then-not-self c =
             numbers_are = f;
             usages_are = back8.usages_at.ensures.usages D a _ A refl;
           }) t
-          (λ k. absurd (clash k (c.if-not-self.true))) g }
+          (λ k. absurd (clash k (not_true _ c.if-not-self.true))) g }
 
 pub name_each-requires-2 : goal.name_each-requires-2
 name_each-requires-2 c =

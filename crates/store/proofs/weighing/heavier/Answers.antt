@@ -1,4 +1,5 @@
 -- `heavier` meets its contract: by the key tuple of the fact, if it has one, and its weight, or the number at its slot. Assumes nothing.
+use Rattle.records.proofs.Lists.{not_false, not_true}
 use mathlib.Core.Path.{refl}
 use native.Mathlib.Omega.{arith}
 use lib.ListN.{take, drop}
@@ -15,7 +16,7 @@ returns-then-not-keyed c = let a = c.args in
     let ps = component_rows_in a.head.now in
     let rows = rows_in a.n a.memory.now in
     let fact = take 8 (drop a.at a.memory.now) in
-    λ i. higher_none (keys_in a.head.now) ps rows fact a.least (keyed_none k.result (keys_in a.head.now) ps fact k.ensures (c.if-not-keyed.true))
+    λ i. higher_none (keys_in a.head.now) ps rows fact a.least (keyed_none k.result (keys_in a.head.now) ps fact k.ensures (not_true _ c.if-not-keyed.true))
 
 pub returns-then-index-key_slot : goal.returns-then-index-key_slot
 returns-then-index-key_slot c =
@@ -28,7 +29,7 @@ returns-then-index-key_slot c =
     let g = c.key_slot in
     λ i. higher_old (keys_in a.head.now) ps rows fact a.least k.result.row
     (keyed_one k.result (keys_in a.head.now) ps fact k.ensures
-    (c.if-not-keyed.false))
+    (not_false _ c.if-not-keyed.false))
     (row_weight (keys_in a.head.now) ps rows k.result.row) refl
     (let w = weight_most a.index.now rows i (omega (arith, length_rows 8 a.n a.memory.now)) k.result.row g.result
     g.ensures.number in omega (arith, c.if-index-key_slot.true))
@@ -44,7 +45,7 @@ returns-then-least-weight c =
     let fact = take 8 (drop a.at a.memory.now) in
     λ i. higher_new (keys_in a.head.now) ps rows fact a.least k.result.row
     (keyed_one k.result (keys_in a.head.now) ps fact k.ensures
-    (c.if-not-keyed.false)) weigh.result weigh.ensures
+    (not_false _ c.if-not-keyed.false)) weigh.result weigh.ensures
     c.if-least-weight.true
 
 pub returns : goal.returns
@@ -58,5 +59,5 @@ returns c =
     let fact = take 8 (drop a.at a.memory.now) in
     λ i. higher_old (keys_in a.head.now) ps rows fact a.least k.result.row
     (keyed_one k.result (keys_in a.head.now) ps fact k.ensures
-    (c.if-not-keyed.false)) weigh.result weigh.ensures
+    (not_false _ c.if-not-keyed.false)) weigh.result weigh.ensures
     c.if-least-weight.false
