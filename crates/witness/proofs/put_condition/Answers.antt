@@ -8,10 +8,6 @@ use Rattle.witness.specs.Held.{condition_bytes}
 use Rattle.witness.proofs.Facts.{length_condition_at}
 use Rattle.witness.proofs.put_condition.Goals as goal
 
-returns : tie.Need-returns invariant-loop decreases-loop
-
-returns c = let e : c.loop.i ≡ 8 = omega arith in rw e at c.loop.invariant.1
-
 pub loop-i-init : goal.loop-i-init
 loop-i-init c = let a = c.args in (omega arith, paste-zero a.out.now a.at (condition_bytes a.arity (take 8 (drop a.row a.rows.now))))
 
@@ -25,4 +21,4 @@ pub shape_of-out : goal.shape_of-out
 shape_of-out c = let a = c.args in paste_length (condition_bytes a.arity (take 8 (drop a.row a.rows.now))) a.out.now c.loop-i.out a.at c.loop-i.i 8 (omega arith) (length_condition_at a.arity a.rows.now a.row (omega arith)) c.loop-i.invariant.1 (omega arith)
 
 pub returns : goal.returns
-returns = returns
+returns c = let e : c.loop-i.i ≡ 8 = omega arith in rw e at c.loop-i.invariant.1

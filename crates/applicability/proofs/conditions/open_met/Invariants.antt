@@ -5,4 +5,4 @@ use Rattle.applicability.proofs.conditions.open_met.Given as goal
 
 abbrev pub invariant-loop-i : goal.invariant-loop-i
 invariant-loop-i l =
-    InEntries l.head l.table record { l.count = l.count; l.rows = l.rows } l.initial.memory l.memory l.index l.work l.n l.i
+    InEntries l.head l.table record { count = l.count; rows = l.rows } l.initial.memory l.memory l.index l.work l.n l.i

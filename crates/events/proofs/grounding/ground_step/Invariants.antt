@@ -5,4 +5,4 @@ use Rattle.events.proofs.grounding.ground_step.Given as goal
 
 abbrev pub invariant-loop-i : goal.invariant-loop-i
 invariant-loop-i l =
-    InStep l.head l.table record { l.count = l.count; l.moments = l.moments; rows = l.events } l.initial.memory l.memory l.n l.i
+    InStep l.head l.table record { count = l.count; moments = l.moments; rows = l.events } l.initial.memory l.memory l.n l.i

@@ -7,4 +7,4 @@ use Rattle.events.proofs.openings.close_all.Given as goal
 
 abbrev pub invariant-loop-i : goal.invariant-loop-i
 invariant-loop-i l = (l.i ≤ l.count) × (l.left ≤ 32) × (length l.rows ≡ length l.initial.rows)
-    × (close_events (events_in (l.count - l.i) (drop l.i l.moments) (drop (17 * l.i) l.events)) (record { l.count = l.left; l.rows = l.rows }) ≡ close_events (events_in l.count l.moments l.events) (record { l.count = l.n; l.rows = l.initial.rows }))
+    × (close_events (events_in (l.count - l.i) (drop l.i l.moments) (drop (17 * l.i) l.events)) (record { count = l.left; rows = l.rows }) ≡ close_events (events_in l.count l.moments l.events) (record { count = l.n; rows = l.initial.rows }))

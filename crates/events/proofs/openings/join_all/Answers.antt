@@ -1,4 +1,5 @@
 use mathlib.Core.Path.{refl, sym, ap, ◌∙◌}
+use Rattle.records.proofs.Lists.{not_false, not_true}
 use mathlib.Core.List.{List}
 use Prim.Native.Nat.{◌-◌}
 use native.Mathlib.Omega.{arith}
@@ -26,7 +27,7 @@ returns-then-not-joined c =
     let j = c.join_event-joined in
     sym (joins_full a.moments.now a.events.now a.count l.i a.head.now (record { count = l.held; rows = l.rows })
     (record { fits = j.result.fits; running = record { count = j.result.count; rows = j.new.rows } })
-    j.ensures (omega arith) (c.if-not-joined.true)) ∙ l.invariant.3
+    j.ensures (omega arith) (not_true _ c.if-not-joined.true)) ∙ l.invariant.3
 
 pub loop-i-preserved : goal.loop-i-preserved
 loop-i-preserved c =
@@ -40,7 +41,7 @@ loop-i-preserved c =
       joins_few a.head.now (event_at a.moments.now a.events.now l.i) o (omega arith) r j.ensures,
       j.auto.rows ∙ l.invariant.2,
       sym (joins_more a.moments.now a.events.now a.count l.i a.head.now o r j.ensures (omega arith)
-          (c.if-not-joined.false)) ∙ l.invariant.3,
+          (not_false _ c.if-not-joined.false)) ∙ l.invariant.3,
     )
 
 pub shape_of-rows : goal.shape_of-rows

@@ -7,5 +7,5 @@ use Rattle.events.proofs.openings.join_all.Given as goal
 
 abbrev pub invariant-loop-i : goal.invariant-loop-i
 invariant-loop-i l = (l.i ≤ l.count) × (l.held ≤ 32) × (length l.rows ≡ length l.initial.rows)
-    × (join_events l.head (events_in (l.count - l.i) (drop l.i l.moments) (drop (17 * l.i) l.events)) (record { l.count = l.held; l.rows = l.rows })
-    ≡ join_events l.head (events_in l.count l.moments l.events) (record { l.count = l.n; l.rows = l.initial.rows }))
+    × (join_events l.head (events_in (l.count - l.i) (drop l.i l.moments) (drop (17 * l.i) l.events)) (record { count = l.held; rows = l.rows })
+    ≡ join_events l.head (events_in l.count l.moments l.events) (record { count = l.n; rows = l.initial.rows }))
