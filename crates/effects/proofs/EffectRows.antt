@@ -10,7 +10,7 @@ use native.Mathlib.Omega.{arith}
 use lib.Dec.{eqb, ltb}
 use lib.ListN.{length, get_or, take, drop, length-append}
 use lib.Seq.{get_or-take}
-use borrow.Author.Tests.{eqb-true, eq-eqb, ne_eqb, ltb_true, ltb-false}
+use borrow.Author.Tests.{eqb-true, eq-eqb, ne_eqb, ltb-true, ltb-false}
 use Rattle.records.specs.Lists.{In, any, count_by, keep_if, filter_by, same_list, elem, dedup}
 use Rattle.records.specs.Memory.{over}
 use Rattle.records.proofs.Lists.{bool_cases, filter_append, filter_in, any_map, any_out, in_dedup, eqb_comm, same_list_comm}
@@ -125,7 +125,7 @@ module _ (usage : ℕ) where
       go : (b : Bool) → ltb n i ≡ b
           → (i ≤ n → length (rows_of_usage usage (ground_in i memory)) ≤ length (rows_of_usage usage (ground_in n memory)))
           → length (rows_of_usage usage (ground_in i memory)) ≤ length (rows_of_usage usage (ground_in (suc n) memory))
-      go true t f = let l = ltb_true n i t in let e : i ≡ suc n = omega arith in rw e (omega arith)
+      go true t f = let l = ltb-true n i t in let e : i ≡ suc n = omega arith in rw e (omega arith)
       go false t f =
           let l = f (ltb-false n i t) in
           let s = ap length (rows_append (ground_in n memory) (ground_at memory n ∷ [])) in

@@ -131,13 +131,12 @@ returns c =
       joined_few = joins.ensures.few;
       joined = joins.ensures.joined;
     } in
-    let all = -- what is struck and added stays where it is
-    let still = kept_effects (rows_in m struck) a.work.now a.n p.few p.rows then.new.scratch keeps.ensures.rows in (
-      after_few X,
-      (
-        λ D objs es fs C G u I.
-            holds_after X
-            (effects_of G C T.struck (ap (λ (t : List ℕ). rows_in (then.result - m) (drop (8 * m) t)) still ∙ T.added)) u I,
-        joins.ensures.beside ∙ keeps.ensures.beside,
-      ),
-    ) in record { few = all.0; after = all.1.0; beside = all.1.1 }
+    -- what is struck and added stays where it is
+    let still = kept_effects (rows_in m struck) a.work.now a.n p.few p.rows then.new.scratch keeps.ensures.rows in
+    record {
+      few = after_few X;
+      after = λ D objs es fs C G u I.
+          holds_after X
+          (effects_of G C T.struck (ap (λ (t : List ℕ). rows_in (then.result - m) (drop (8 * m) t)) still ∙ T.added)) u I;
+      beside = joins.ensures.beside ∙ keeps.ensures.beside;
+    }

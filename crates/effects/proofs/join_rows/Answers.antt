@@ -1,28 +1,30 @@
 use mathlib.Core.Path.{◌≡◌, ◌∙◌}
-use Prim.Native.Nat.{◌-◌, ◌*◌, ◌<◌, ◌≤◌}
+use Prim.Native.Nat.{ℕ, ◌+◌, ◌-◌, ◌*◌, ◌<◌, ◌≤◌}
 use native.Mathlib.Omega.{arith}
 use lib.ListN.{length, drop, length-drop}
 use Rattle.run_semantics.specs.Play.{work_bytes}
-use Rattle.effects.specs.Held.{effects_in}
+use Rattle.run_semantics.specs.RunFile.{max_facts}
+use mathlib.Core.List.{List}
+use Rattle.effects.specs.Held.{effects_in, scratch_bytes}
 use Rattle.effects.proofs.FilledRows.{effects_length}
 use Rattle.effects.proofs.IndexedRows.{joined_turn, joining_begin, joining_stop, joining_more, joining_all}
 use Rattle.effects.proofs.join_rows.Goals as goal
 
-room_of : (b : tie.Start invariant-loop decreases-loop) → work_bytes ≤ length b.args.scratch.now
-room_of b = let l = b.requires.1.1 in omega arith
+room_of : (scratch : List ℕ) → length scratch ≡ scratch_bytes → work_bytes ≤ length scratch
+room_of scratch l = omega arith
 
-adds_of : (b : tie.Start invariant-loop decreases-loop) → 8 * b.args.m ≤ length (drop (8 * b.args.from) (effects_in b.args.scratch.now))
-adds_of b =
-    let m = b.requires.0 in
-    let l = effects_length b.args.scratch.now b.requires.1.1 in
-    let d = length-drop (8 * b.args.from) (effects_in b.args.scratch.now) in
+adds_of : (scratch : List ℕ) (from m : ℕ) → from + m ≤ max_facts → length scratch ≡ scratch_bytes
+    → 8 * m ≤ length (drop (8 * from) (effects_in scratch))
+adds_of scratch from m few room =
+    let l = effects_length scratch room in
+    let d = length-drop (8 * from) (effects_in scratch) in
     omega arith
 
 pub loop-j-init : goal.loop-j-init
 loop-j-init c =
     let a = c.args in
     joining_begin (drop (8 * a.from) (effects_in a.scratch.now)) a.m a.count a.head.now a.scratch.now a.index.now
-    c.requires.count (room_of c)
+    c.requires.count (room_of c.args.scratch.now c.requires.scratch)
 
 pub overflow_add-from : goal.overflow_add-from
 overflow_add-from c = let p = c.requires.few in let t = c.loop-j-test.true in omega arith
@@ -69,7 +71,7 @@ returns-then-n-gt-MAX_FACTS c =
     let least = K.least in
     let f = J.few.0 in
     let start = back8 in
-    record { few = (omega arith, J.few.1); joined = λ I S. joining_stop K t (adds_of start) (room_of start) J I S k; beside = J.beside ∙ K.beside }
+    record { few = (omega arith, J.few.1); joined = λ I S. joining_stop K t (adds_of start.args.scratch.now start.args.from start.args.m start.requires.few start.requires.scratch) (room_of start.args.scratch.now start.requires.scratch) J I S k; beside = J.beside ∙ K.beside }
 
 pub overflow_step-j : goal.overflow_step-j
 overflow_step-j c =
@@ -99,7 +101,7 @@ loop-j-preserved c =
       others = r.others;
     }) in
     let start = back8 in
-    joining_more K t (adds_of start) (room_of start) J c.if-n-gt-MAX_FACTS.false
+    joining_more K t (adds_of start.args.scratch.now start.args.from start.args.m start.requires.few start.requires.scratch) (room_of start.args.scratch.now start.requires.scratch) J c.if-n-gt-MAX_FACTS.false
 
 pub shape_of-scratch : goal.shape_of-scratch
 shape_of-scratch c = c.loop-j.invariant.room

@@ -8,21 +8,15 @@ use borrow.Author.Rules.{rules}
 use Rattle.records.specs.Lists.{any}
 use Rattle.literals.specs.Held.{rows_in}
 use Rattle.events.specs.Held.{is_pattern}
-use Rattle.effects.specs.Held.{effects_in, Marked, struck_of, FirstStruck}
+use Rattle.run_semantics.specs.RunFile.{max_facts}
+use Rattle.effects.specs.Held.{effects_in, scratch_bytes, Marked, struck_of, FirstStruck}
 use Rattle.effects.proofs.FilledRows.{effects_length, filled_length}
 use Rattle.effects.proofs.IndexedRows.{keeping_effects, keeping_begin, keeping_count, keeping_rows, keeping_indexed}
 use Rattle.effects.proofs.KeptRuns.{gone_count, keeping_run, keeping_struck}
 use Rattle.effects.proofs.keep_rows.Goals as goal
 
--- the next row that is struck, by what was struck when the loop began
-struck_now : (b : tie.After-struck-from invariant-loop decreases-loop)
-    → FirstStruck (rows_in b.args.m (effects_in b.args.scratch.now)) b.args.work.now b.args.n b.loop.i b.struck-from.result
-struck_now b =
-    subst (λ (t : List ℕ). FirstStruck (rows_in b.args.m t) b.args.work.now b.args.n b.loop.i b.struck-from.result)
-    (keeping_effects b.loop.invariant b.requires.0) b.struck-from.ensures
-
-room_of : (b : tie.Start invariant-loop decreases-loop) → 8 * b.args.n ≤ length b.args.scratch.now
-room_of b = let n = b.requires.0 in let l = b.requires.1.1.1.0 in omega arith
+room_of : (scratch : List ℕ) (n : ℕ) → n ≤ max_facts → length scratch ≡ scratch_bytes → 8 * n ≤ length scratch
+room_of scratch n few room = omega arith
 
 pub put_marks-requires : goal.put_marks-requires
 put_marks-requires c =
@@ -133,8 +127,8 @@ shape_of-scratch-then-n-next c =
     let back8 = c in
     let back16 = back8 in
     filled_length (keeping_run back8.loop-marks.invariant c.struck_from-next.result
-    (struck_now c) back16.requires.rows
-    (room_of back16) refl c.put_bytes.ensures).filled
+    (subst (λ (t : List ℕ). FirstStruck (rows_in c.args.m t) c.args.work.now c.args.n c.loop-marks.i c.struck_from-next.result) (keeping_effects c.loop-marks.invariant c.requires.few) c.struck_from-next.ensures) back16.requires.rows
+    (room_of back16.args.scratch.now back16.args.n back16.requires.few back16.requires.scratch) refl c.put_bytes.ensures).filled
 
 pub returns-then-n-next : goal.returns-then-n-next
 returns-then-n-next c =
@@ -142,8 +136,8 @@ returns-then-n-next c =
     let back16 = back8 in
     let struck-from = c.struck_from-next in
     let K = keeping_run back8.loop-marks.invariant struck-from.result
-    (struck_now c) back16.requires.rows
-    (room_of back16) refl c.put_bytes.ensures in
+    (subst (λ (t : List ℕ). FirstStruck (rows_in c.args.m t) c.args.work.now c.args.n c.loop-marks.i c.struck_from-next.result) (keeping_effects c.loop-marks.invariant c.requires.few) c.struck_from-next.ensures) back16.requires.rows
+    (room_of back16.args.scratch.now back16.args.n back16.requires.few back16.requires.scratch) refl c.put_bytes.ensures in
     let r = K.reach in
     let e : struck-from.result ≡ back16.args.n = omega arith in
     record { count = keeping_count K e; rows = keeping_rows K e; indexed = keeping_indexed K e; beside = K.beside }
@@ -173,8 +167,8 @@ pub loop-marks-preserved : goal.loop-marks-preserved
 loop-marks-preserved c =
     let back8 = c in
     let back16 = back8 in
-    keeping_struck back8.loop-marks.invariant back8.struck_from-next.result (struck_now (back8))
+    keeping_struck back8.loop-marks.invariant back8.struck_from-next.result (subst (λ (t : List ℕ). FirstStruck (rows_in c.args.m t) c.args.work.now c.args.n c.loop-marks.i c.struck_from-next.result) (keeping_effects c.loop-marks.invariant c.requires.few) c.struck_from-next.ensures)
     back16.requires.rows
-    (room_of back16) refl
+    (room_of back16.args.scratch.now back16.args.n back16.requires.few back16.requires.scratch) refl
     c.put_bytes.ensures
     c.if-n-next.false c.leave.ensures.indexed c.leave.ensures.beside

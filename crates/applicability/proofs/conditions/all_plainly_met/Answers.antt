@@ -15,7 +15,7 @@ loop-i-init c = (omega arith, λ head I S. refl)
 pub plainly_met-requires : goal.plainly_met-requires
 plainly_met-requires c =
     let p = c.requires in
-    let all = (p.memory, (omega arith, p.1.1)) in record { memory = all.0; literal = all.1.0; few = all.1.1.0; facts = all.1.1.1 }
+    record { memory = p.memory; literal = omega arith; few = p.few; facts = p.facts }
 
 pub returns-then-not-plainly_met : goal.returns-then-not-plainly_met
 returns-then-not-plainly_met c head I S =

@@ -21,7 +21,7 @@ entry_met-requires c =
     let back8 = c in
     let p = back8.requires in
     let s = c.loop-i.invariant.sized in
-    let all = (p.entries, (omega arith, (omega arith, p.1.1))) in record { entries = all.0; entry = all.1.0; memory = all.1.1.0; few = all.1.1.1.0; facts = all.1.1.1.1 }
+    record { entries = p.entries; entry = omega arith; memory = omega arith; few = p.few; facts = p.facts }
 
 pub shape_of-memory-then-not-entry_met : goal.shape_of-memory-then-not-entry_met
 shape_of-memory-then-not-entry_met c = c.entry_met.auto.memory ∙ c.loop-i.invariant.sized

@@ -3,10 +3,10 @@ use Rattle.applicability.proofs.Clashes.{words_meet, words_apart}
 use Rattle.applicability.proofs.interference.literals_meet.Goals as goal
 
 pub returns-then-words-i : goal.returns-then-words-i
-returns-then-words-i c T = let p = c.requires.1.1.1 in words_meet T p.0 p.1 c.if-words-i.true
+returns-then-words-i c T = let p = c.requires in words_meet T p.first_word p.second_word c.if-words-i.true
 
 pub returns-then-not-patterns : goal.returns-then-not-patterns
-returns-then-not-patterns c T = let p = c.requires.1.1.1 in words_apart T p.0 p.1 c.if-words-i.false (c.if-not-patterns.true)
+returns-then-not-patterns c T = let p = c.requires in words_apart T p.first_word p.second_word c.if-words-i.false (c.if-not-patterns.true)
 
 pub returns : goal.returns
 returns c T = c.patterns_meet.ensures
