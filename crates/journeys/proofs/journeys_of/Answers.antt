@@ -7,7 +7,7 @@ use Rattle.journeys.proofs.Belonging.{part_within, part_again}
 use Rattle.journeys.proofs.journeys_of.Goals as goal
 
 pub number_classes-count-requires : goal.number_classes-count-requires
-number_classes-count-requires c = let all = (c.put_places.ensures refl, search rules) in record { places = all.0; rowed = all.1.0; literals = all.1.1.0; words = all.1.1.1 }
+number_classes-count-requires c = record { places = c.put_places.ensures refl; rowed = search rules; literals = search rules; words = search rules }
 
 pub slice_bounds-mark_journeys-end : goal.slice_bounds-mark_journeys-end
 slice_bounds-mark_journeys-end c =

@@ -14,16 +14,6 @@ use Rattle.machine.proofs.Closing.{leaves_forbidden}
 use Rattle.machine.proofs.Resting.{indexed_set, noted_anew, unset}
 use Rattle.machine.proofs.State.step.Goals as goal
 
--- the ground literals, and the scratch memory with them, are as long as before
-ground_length : (b : tie.After-forbidden) → length b.forbidden.new.1.1.1.1.0 ≡ grounded_bytes
-ground_length b = b.forbidden.auto.1.1.1.1.0 ∙ literals_length b.args.scratch.now b.requires.1.1
-
-scratch_length : (b : tie.After-forbidden) → length (put_mid 0 grounded_bytes b.args.scratch.now
-    b.forbidden.new.1.1.1.1.0) ≡ scratch_bytes
-scratch_length b =
-    same_len_mid 0 grounded_bytes b.args.scratch.now b.forbidden.new.1.1.1.1.0 b.forbidden.auto.1.1.1.1.0
-    ∙ b.requires.1.1
-
 pub returns-then-asked-ne0 : goal.returns-then-asked-ne0
 returns-then-asked-ne0 c =
     let back8 = c in
@@ -43,7 +33,7 @@ advance-requires c =
     let back16 = back8 in
     let asks = back8.forbidden-asked in
     let p = back16.requires in
-    record { closable = p.closable; agenda = p.agenda; scratch = scratch_length (back8); literals = asks.ensures.few }
+    record { closable = p.closable; agenda = p.agenda; scratch = same_len_mid 0 grounded_bytes c.args.scratch.now asks.new.memory asks.auto.memory ∙ p.scratch; literals = asks.ensures.few }
 
 pub returns : goal.returns
 returns c =
@@ -56,7 +46,7 @@ returns c =
     let nothing = back8.if-asked-ne0.false in
     let x = c.advance in
     let put = literals_put asks.new.memory _
-    (ground_length back8) in record { leaves = λ D objs s es old S under noted.
+    (asks.auto.memory ∙ literals_length a.scratch.now c.requires.scratch) in record { leaves = λ D objs s es old S under noted.
           let is = S.state_is in
           let rows = state_rows D S.domain.says.bounded s es S.kept state is a.work.now old S.facts_are in
           let held = indexed_set a.head.now a.index.now _ (map fact_row s.facts) noted.indexed in

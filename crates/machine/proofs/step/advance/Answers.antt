@@ -1,4 +1,5 @@
 -- `advance` meets its contract: too many facts, too many open, or the step is taken. Assumes nothing.
+use Rattle.records.proofs.Lists.{not_true, not_false}
 use mathlib.Core.Path.{refl, sym, ap, ◌∙◌}
 use native.Mathlib.Omega.{arith}
 use Rattle.events.specs.Held.{agenda_open, agenda_waiting}
@@ -40,7 +41,7 @@ returns-then-not-joined c =
     let a = back16.args in
     let before = state_in a.state a.agenda.now in
     let o = c.agenda_after-joined in
-    let no = c.if-not-joined.true in record { leaves = λ D objs s es table old S G under free held.
+    let no = not_true _ c.if-not-joined.true in record { leaves = λ D objs s es table old S G under free held.
           let lent = S.domain in
           let kept = S.kept in
           let is = S.state_is in
@@ -69,7 +70,7 @@ returns c =
     let x = back16.facts_after-after in
     let small = back8.if-facts-gt-MAX_FACTS.false in
     let o = back8.agenda_after-joined in
-    let yes = back8.if-not-joined.false in
+    let yes = not_false _ back8.if-not-joined.false in
     let t = c.settle in
     let m = c.top_from-highest in record { leaves = λ D objs s es table old S G under free held.
           let lent = S.domain in

@@ -1,7 +1,6 @@
 -- `forbidden` meets its contract: the tests in their order. Assumes nothing.
 use mathlib.Core.Path.{sym, ap, ◌∙◌}
 use native.Mathlib.Omega.{arith}
-use Rattle.records.proofs.Lists.{not_true, not_false}
 use Rattle.events.proofs.FactRows.{waiting_count}
 use Rattle.machine.specs.Held.{StateRows}
 use Rattle.machine.proofs.NextKept.{events_chosen, events_alone}
@@ -16,7 +15,7 @@ returns-then-not-ends_open c =
           let w = ap (λ (x : StateRows). x.waiting) is in
           let ends = opens.ensures D s.running es lent.says.bounded kept.running kept.waiting kept.running_few
           kept.waiting_few r w in
-          (not_open D objs s es (sym ends ∙ not_true _ fails), λ z. absurd (omega arith)) }
+          (not_open D objs s es (sym ends ∙ fails), λ z. absurd (omega arith)) }
 
 pub returns-then-not-open_met : goal.returns-then-not-open_met
 returns-then-not-open_met c =
@@ -29,7 +28,7 @@ returns-then-not-open_met c =
           let ends = opens.ensures D s.running es lent.says.bounded kept.running kept.waiting kept.running_few
           kept.waiting_few r w in
           let keep = keeps.ensures D s.running s.facts lent r kept.running kept.running_few rows held objs kept.chosen in
-          (not_kept D objs s es (sym ends ∙ not_false _ all-open) (sym keep ∙ not_true _ fails), λ z. absurd (omega arith)) }
+          (not_kept D objs s es (sym ends ∙ all-open) (sym keep ∙ fails), λ z. absurd (omega arith)) }
 
 pub returns-then-not-events_met : goal.returns-then-not-events_met
 returns-then-not-events_met c =
@@ -45,7 +44,7 @@ returns-then-not-events_met c =
           kept.waiting_few r w in
           let G = grounds.ensures.grounded D es lent w kept.waiting kept.waiting_few in
           let met = mets.ensures D _ es s.facts G rows held objs (events_chosen kept) in
-          (not_met D objs s es (sym ends ∙ not_false _ all-open) (sym met ∙ not_true _ fails), λ z. absurd (omega arith)) }
+          (not_met D objs s es (sym ends ∙ all-open) (sym met ∙ fails), λ z. absurd (omega arith)) }
 
 pub independent-requires : goal.independent-requires
 independent-requires c =
@@ -75,8 +74,8 @@ returns-then-not-independent c =
           let G = grounds.ensures.grounded D es lent w kept.waiting kept.waiting_few in
           let met = mets.ensures D _ es s.facts G rows held objs (events_chosen kept) in
           let apart = aparts.ensures D _ es G (sym (waiting_count es _ w)) kept.waiting_few objs some (events_alone kept) in (
-            not_apart D objs s es (sym ends ∙ not_false _ all-open) (sym met ∙ not_false _ all-met) (sym keep ∙ not_false _ all-kept)
-                (sym apart ∙ not_true _ fails),
+            not_apart D objs s es (sym ends ∙ all-open) (sym met ∙ all-met) (sym keep ∙ all-kept)
+                (sym apart ∙ fails),
             λ z. absurd (omega arith),
           ) }
 
@@ -101,7 +100,7 @@ returns c =
           let G = grounds.ensures.grounded D es lent w kept.waiting kept.waiting_few in
           let met = mets.ensures D _ es s.facts G rows held objs (events_chosen kept) in
           let apart = aparts.ensures D _ es G (sym (waiting_count es _ w)) kept.waiting_few objs some (events_alone kept) in (
-            nothing_forbids D objs s es (sym ends ∙ not_false _ all-open) (sym met ∙ not_false _ all-met) (sym keep ∙ not_false _ all-kept)
-                (sym apart ∙ not_false _ All-apart),
+            nothing_forbids D objs s es (sym ends ∙ all-open) (sym met ∙ all-met) (sym keep ∙ all-kept)
+                (sym apart ∙ All-apart),
             λ z. G,
           ) }
