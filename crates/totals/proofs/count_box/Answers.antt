@@ -7,7 +7,9 @@ use Rattle.totals.proofs.count_box.Goals as goal
 
 pub returns : goal.returns
 returns c =
-    let (number, (place, memory)) = (c.count_opened.ensures.number, c.count_opened.ensures.first, c.count_opened.ensures.totals) in
+    let number = c.count_opened.ensures.number in
+    let place = c.count_opened.ensures.first in
+    let memory = c.count_opened.ensures.totals in
     let b = c.args.packed.now in
     let out = c.args.totals.now in
     let small : length b < 18446744073709551616 = omega arith in
