@@ -30,7 +30,6 @@ returns-then-self c =
 pub overflow_add-end : goal.overflow_add-end
 overflow_add-end c =
     let back8 = c in
-    let f = back8.well-formed.1.1.1.0 in
     let w = whole_within _ _ (sym c.record_at.ensures ∙ c.in-Whole.is) in omega arith
 
 pub slice_bounds-p-end : goal.slice_bounds-p-end
@@ -40,7 +39,7 @@ pub take_run_record-requires : goal.take_run_record-requires
 take_run_record-requires c =
     let back8 = c in
     let p = back8.requires in
-    (p.playable, (p.memory.agenda_length, c.if-kind-ne19.true))
+    record { playable = p.playable; agenda = p.memory.agenda_length; other = c.if-kind-ne19.true }
 
 pub returns-then-kind-ne19 : goal.returns-then-kind-ne19
 returns-then-kind-ne19 c =
@@ -58,31 +57,30 @@ returns-then-kind-ne19 c =
 pub begin-begun-requires : goal.begin-begun-requires
 begin-begun-requires c =
     let back8 = c in
-    let p = back8.requires in (facts_held p.playable, facts_room p.playable)
+    let p = back8.requires in record { few = facts_held p.playable; facts = facts_room p.playable }
 
 pub returns-then-number-ne0 : goal.returns-then-number-ne0
 returns-then-number-ne0 c =
     let back8 = c in
     let back16 = back8 in
-    let kind = back8.kind-1 in
+    let kind = back8.in-Whole in
     let a = back16.args in
     let p = back16.requires in
     let player = whole_in a.self a.agenda.now in
     let b = c.begin-begun in
     let begun = whole_in b.result a.agenda.now in
     let x = c.step_stop-number in
-    let found = sym back8.record_at.ensures ∙ kind.given.1 in
+    let found = sym back8.record_at.ensures ∙ kind.is in
     let going = back8.if-self.false in
-    let w = kind.given.0 in
-    let k = kind_19 w.0 c.if-kind-ne19.false in record { leads = λ D q old H st noted.
+    let k = kind_19 kind.kind c.if-kind-ne19.false in record { leads = λ D q old H st noted.
           let s = stands_begun p.playable begun (λ D p old. b.ensures D p a.agenda.now old) D H.says q old st noted in
           turn_whole D a.run.now q player a.work.now old st going _ _ _ found _ _ _ refl
-          (step_refused D q begun a.work.now old s _ x.result x.ensures w.0 k (w.1.0 + w.1.1.0) c.if-number-ne0.true); noted = λ D q old H st noted.
+          (step_refused D q begun a.work.now old s _ x.result x.ensures kind.kind k (kind.start + kind.len) c.if-number-ne0.true); noted = λ D q old H st noted.
           let s = stands_begun p.playable begun (λ D p old. b.ensures D p a.agenda.now old) D H.says q old st noted in
           turn_noted D a.run.now q player a.work.now old st going _ _ _ found _ refl a.head.now _
-          (noted_ended D _ _ (play_record D q (run_kind_of w.0) _ (w.1.0 + w.1.1.0)) (record { number = x.result; player = begun })
+          (noted_ended D _ _ (play_record D q (run_kind_of kind.kind) _ (kind.start + kind.len)) (record { number = x.result; player = begun })
           a.work.now old
-          (step_refused D q begun a.work.now old s _ x.result x.ensures w.0 k (w.1.0 + w.1.1.0) c.if-number-ne0.true)
+          (step_refused D q begun a.work.now old s _ x.result x.ensures kind.kind k (kind.start + kind.len) c.if-number-ne0.true)
           c.if-number-ne0.true) }
 
 pub take_step-requires : goal.take_step-requires
@@ -96,14 +94,14 @@ take_step-requires c =
     ∙ back8.in-Whole.is) in
     let q = step_shape p.playable (whole_in b.result a.agenda.now) (λ D p old. b.ensures D p a.agenda.now old) in
     let at = q.2 in
-    (q.0, (q.1, (omega arith, p.memory)))
+    record { closable = q.0; steps = q.1; further = omega arith; memory = p.memory }
 
 pub returns-else-number-ne0 : goal.returns-else-number-ne0
 returns-else-number-ne0 c =
     let back8 = c in
     let back16 = back8 in
     let back24 = back16 in
-    let kind = back16.kind-1 in
+    let kind = back16.in-Whole in
     let if4 = back8.if-number-ne0 in
     let a = back24.args in
     let p = back24.requires in
@@ -111,22 +109,21 @@ returns-else-number-ne0 c =
     let b = back8.begin-begun in
     let begun = whole_in b.result a.agenda.now in
     let x = back8.step_stop-number in
-    let found = sym back16.record_at.ensures ∙ kind.given.1 in
+    let found = sym back16.record_at.ensures ∙ kind.is in
     let going = back16.if-self.false in
-    let w = kind.given.0 in
-    let k = kind_19 w.0 back16.if-kind-ne19.false in
+    let k = kind_19 kind.kind back16.if-kind-ne19.false in
     let l = c.take_step in record { leads = λ D q old H st noted.
           let s = stands_begun p.playable begun (λ D p old. b.ensures D p a.agenda.now old) D H.says q old st noted in
           turn_whole D a.run.now q player a.work.now old st going _ _ _ found _ _ _ refl
-          (step_passed D q begun a.work.now old s _ x.result x.ensures w.0 k (w.1.0 + w.1.1.0) if4.false _ _
+          (step_passed D q begun a.work.now old s _ x.result x.ensures kind.kind k (kind.start + kind.len) if4.false _ _
           (l.ensures.leads D (begin D q) old H s
-          (step_some D q begun a.work.now old s _ x.result x.ensures w.0 k (w.1.0 + w.1.1.0) if4.false)
+          (step_some D q begun a.work.now old s _ x.result x.ensures kind.kind k (kind.start + kind.len) if4.false)
           (begun_tally D q) (noted_begun D _ _ q noted))); noted = λ D q old H st noted.
           let s = stands_begun p.playable begun (λ D p old. b.ensures D p a.agenda.now old) D H.says q old st noted in
           turn_noted D a.run.now q player a.work.now old st going _ _ _ found _ refl a.head.now _
-          (noted_of D _ _ q _ (w.1.0 + w.1.1.0) w.0 step_record k
+          (noted_of D _ _ q _ (kind.start + kind.len) kind.kind step_record k
           (noted_step_record D _ _ q _ _ (l.ensures.noted D (begin D q) old H s
-          (step_some D q begun a.work.now old s _ x.result x.ensures w.0 k (w.1.0 + w.1.1.0) if4.false)
+          (step_some D q begun a.work.now old s _ x.result x.ensures kind.kind k (kind.start + kind.len) if4.false)
           (begun_tally D q) (noted_begun D _ _ q noted)))) }
 
 pub returns-in-Cut : goal.returns-in-Cut

@@ -40,7 +40,7 @@ returns-then-number-ne0 c =
 pub stepped-requires : goal.stepped-requires
 stepped-requires c =
     let back8 = c in
-    let p = back8.requires in (p.steps, p.further)
+    let p = back8.requires in record { steps = p.steps; further = p.further }
 
 pub returns : goal.returns
 returns c =

@@ -12,7 +12,7 @@ pub take_rest-requires : goal.take_rest-requires
 take_rest-requires c =
     let back8 = c in
     let p = back8.requires in
-    (p.closable, (p.steps, (p.further, (p.memory, c.if-state-eq0.true))))
+    record { closable = p.closable; steps = p.steps; further = p.further; memory = p.memory; none = c.if-state-eq0.true }
 
 pub returns-then-state-eq0 : goal.returns-then-state-eq0
 returns-then-state-eq0 c =
@@ -22,7 +22,7 @@ returns-then-state-eq0 c =
 pub step-closed-requires : goal.step-closed-requires
 step-closed-requires c =
     let back8 = c in
-    let p = back8.requires in (p.closable, (p.memory.agenda_length, p.memory.scratch_length))
+    let p = back8.requires in record { closable = p.closable; agenda = p.memory.agenda_length; scratch = p.memory.scratch_length }
 
 pub returns-then-stop-ne0 : goal.returns-then-stop-ne0
 returns-then-stop-ne0 c =
@@ -47,7 +47,7 @@ pub stepped-requires : goal.stepped-requires
 stepped-requires c =
     let back8 = c in
     let back16 = back8 in
-    let p = back16.requires in (p.steps, p.further)
+    let p = back16.requires in record { steps = p.steps; further = p.further }
 
 pub returns : goal.returns
 returns c =

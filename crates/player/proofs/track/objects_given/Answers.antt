@@ -6,7 +6,7 @@ use Rattle.player.proofs.TrackCalls.{given_whole, given_cut, given_none}
 use Rattle.player.proofs.track.objects_given.Goals as goal
 
 pub overflow_add-end : goal.overflow_add-end
-overflow_add-end c = let f = c.well-formed.0 in let w = whole_within _ _ (sym c.record_at.ensures ∙ c.in-Whole.is) in omega arith
+overflow_add-end c = let w = whole_within _ _ (sym c.record_at.ensures ∙ c.in-Whole.is) in omega arith
 
 pub slice_bounds-count_of-end : goal.slice_bounds-count_of-end
 slice_bounds-count_of-end c = let w = whole_within _ _ (sym c.record_at.ensures ∙ c.in-Whole.is) in omega

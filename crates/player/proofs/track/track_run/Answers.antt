@@ -1,4 +1,5 @@
 -- `track_run` meets its contract: stopped by the instance, before the start counts, or with the total. Assumes nothing.
+use Rattle.records.proofs.Lists.{not_false, not_true}
 use mathlib.Core.Path.{refl, sym, ap, ◌∙◌}
 use Prim.Native.Nat.{ℕ}
 use native.Mathlib.Omega.{arith}
@@ -36,7 +37,7 @@ returns-then-not-ended c D H wf =
     let e = play-run.ensures D H in
     let z = sym (back8.instance_stop-stop.ensures D H.says) ∙ back8.if-stop-ne0.false in
     early_answer D a.instance.now a.run.now z play-run.result e.0
-    (c.if-not-ended.true) c.answer_by.result
+    (not_true _ c.if-not-ended.true) c.answer_by.result
     (c.answer_by.ensures (play_run D a.run.now) e.0) _ a.work.now e.1
 
 pub total_of-total-requires : goal.total_of-total-requires
@@ -68,7 +69,7 @@ returns c D H wf =
     ∙ back8.if-stop-ne0.false in
     let k = (kept_run D H.says.bounded a.run.now).1 in
     let n = ap (λ (x : Ended). x.facts) e.0 in
-    total_answer D a.instance.now a.run.now z play-run.result e.0 (c.if-not-ended.false)
+    total_answer D a.instance.now a.run.now z play-run.result e.0 (not_false _ c.if-not-ended.false)
     c.answer_by-2.result
     (c.answer_by-2.ensures o e.0) total_of.result
     (total_of.ensures D (record { facts = o.facts; running = o.running }) H wf

@@ -12,13 +12,12 @@ answer_rows-count-requires c =
     let back8 = c in
     let p = back8.requires in
     let few = c.step_alone-alone.ensures.few in
-    let all = (p.places, (few, (search rules, (search rules, (search rules, search rules))))) in record { places = all.0; few = all.1.0; base = all.1.1.0; after = all.1.1.1.0; rowed = all.1.1.1.1.0; literals = all.1.1.1.1.1.0; room = all.1.1.1.1.1.1 }
+    record { places = p.places; few = few; base = search rules; after = search rules; rowed = search rules; literals = search rules; room = search rules }
 
 pub overflow_add-result : goal.overflow_add-result
 overflow_add-result c =
     let back8 = c in
     let back16 = back8 in
-    let f = back16.well-formed.1.1.1.1.0 in
     let r = back16.requires.room in
     let k = c.answer_rows-count.ensures.few in omega arith
 

@@ -12,7 +12,7 @@ returns c =
     let back8 = c in
     let back16 = back8 in
     let a = back16.args in
-    let p = back16.requires.1.1.1.1 in
+    let p = back16.requires in
     let n = back8.number_classes-count in
     let k = n.ensures.few in
     let few : n.result ≤ length a.made.now = omega arith in record { few = omega arith; answers = λ D i A wf h L.

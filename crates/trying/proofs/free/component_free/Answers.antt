@@ -29,7 +29,7 @@ returns-then-not-is_about c =
     let same = instance_put a.head.now a.c l.o a.instance.now l.fact fact (omega arith) l.invariant.0
     put-instance.ensures in
     sym (any_hit (free a.head.now a.c a.instance.now ls) a.n l.o (omega arith)
-    (ap not (sym (c.is_about.ensures ∙ ap (is_about ls) same)) ∙ c.if-not-is_about.true))
+    (ap not (sym (c.is_about.ensures ∙ ap (is_about ls) same) ∙ c.if-not-is_about.true)))
     ∙ l.invariant.1
 
 pub loop-o-preserved : goal.loop-o-preserved
@@ -44,7 +44,7 @@ loop-o-preserved c =
     put-instance.ensures in (
       put-instance.auto.out ∙ l.invariant.0,
       sym (any_miss (free a.head.now a.c a.instance.now ls) a.n l.o (omega arith)
-          (ap not (sym (c.is_about.ensures ∙ ap (is_about ls) same)) ∙ c.if-not-is_about.false))
+          (ap not (sym (c.is_about.ensures ∙ ap (is_about ls) same) ∙ c.if-not-is_about.false)))
           ∙ l.invariant.1,
     )
 
