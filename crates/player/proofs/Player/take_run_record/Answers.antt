@@ -71,7 +71,7 @@ returns-in-20 c =
 pub returns-in_default : goal.returns-in_default
 returns-in_default c =
     let a = c.args in
-    let r = c.in_default in
-    let k = kind_other a.kind r.not-16 r.not-17 r.not-18 c.requires.other r.not-20 in record { leads = λ D q old H st noted.
+    let r = c.in_default.in_default-own.rest in
+    let k = kind_other a.kind r.0.0.0.1 r.0.0.1 r.0.1 c.requires.other r.1 in record { leads = λ D q old H st noted.
           of_other D q a.kind a.p.now a.behind _ _ old k
           (stops_at D q (whole_in a.self a.agenda.now) a.work.now old st 50 50 refl (λ z. omega arith)); noted = λ D q old H st noted. noted_of D _ _ q a.p.now a.behind a.kind other_record k (noted_other D _ _ q a.p.now a.behind) }
