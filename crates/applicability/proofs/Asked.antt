@@ -79,13 +79,13 @@ module _ (p : Role → Bool) (q : Atom Argument → Bool) (ls : List Literal) wh
 -- the facts of an event, as tests of its action's literals
 pub all_event : (D : Domain) (objs : List Object) (e : Event) (c : Usage) (q : Fact → Bool)
     → all q (event_facts D objs e c)
-    ≡ all (λ (l : Literal). not (counts_for (time_of e.moment) c l.role) || all q (facts_of objs e.ground.binding l.atom))
-    (action D e.ground.action).lits
+    ≡ all (λ (l : Literal). not (counts_for (time_of e.moment) c l.role) || all q (facts_of objs e.act.binding l.atom))
+    (action D e.act.action).lits
 unfolding event_facts
 all_event D objs e c q =
-    all_flat (facts_of objs e.ground.binding) q (literals_at (action D e.ground.action) e.moment c)
-    ∙ all_literals_lem (action D e.ground.action) e.moment c (λ p. all q (facts_of objs e.ground.binding p))
-    ∙ all_role (counts_for (time_of e.moment) c) (λ p. all q (facts_of objs e.ground.binding p)) (action D e.ground.action).lits
+    all_flat (facts_of objs e.act.binding) q (literals_at (action D e.act.action) e.moment c)
+    ∙ all_literals_lem (action D e.act.action) e.moment c (λ p. all q (facts_of objs e.act.binding p))
+    ∙ all_role (counts_for (time_of e.moment) c) (λ p. all q (facts_of objs e.act.binding p)) (action D e.act.action).lits
 
 -- ---- two tests at once, and tests that agree
 
@@ -178,9 +178,9 @@ module _ {D : Domain} {head : List ℕ} (H : HeadOf D head) {objs : List Object}
 -- what an action asks of the facts at the start, over all, or at the end, each its own
 unfoldable pub asked : Domain → List Object → Time → GroundAction → List Fact → Bool
 unfolding own_hold over_all_hold
-asked D objs AtStart g fs = own_hold D objs fs (record { moment = Start; ground = g })
+asked D objs AtStart g fs = own_hold D objs fs (record { moment = Start; act = g })
 asked D objs OverAll g fs = over_all_hold D objs fs g
-asked D objs AtEnd g fs = own_hold D objs fs (record { moment = End; ground = g })
+asked D objs AtEnd g fs = own_hold D objs fs (record { moment = End; act = g })
 
 module _ (D : Domain) (objs : List Object) (g : GroundAction) (fs : List Fact) where
   -- of the facts of a literal, those of true conditions are there, and those of false ones are not
@@ -191,10 +191,10 @@ module _ (D : Domain) (objs : List Object) (g : GroundAction) (fs : List Fact) w
   absent l = all (λ f. not (elem same_fact f fs)) (facts_of objs g.binding l.atom)
 
   event_asks : (m : Moment)
-      → own_hold D objs fs (record { moment = m; ground = g }) ≡ all (asks objs (time_of m) g fs) (action D g.action).lits
+      → own_hold D objs fs (record { moment = m; act = g }) ≡ all (asks objs (time_of m) g fs) (action D g.action).lits
   unfolding own_hold
   event_asks m =
-      let e : Event = record { moment = m; ground = g } in
+      let e : Event = record { moment = m; act = g } in
       ap₂ ◌&&◌ (all_event D objs e Positive (λ f. elem same_fact f fs)) (all_event D objs e Negative (λ f. not (elem same_fact f fs)))
       ∙ all_and (λ (l : Literal). not (counts_for (time_of m) Positive l.role) || there l)
       (λ (l : Literal). not (counts_for (time_of m) Negative l.role) || absent l) (action D g.action).lits
@@ -219,11 +219,11 @@ module _ (D : Domain) (objs : List Object) (g : GroundAction) (fs : List Fact) w
 
 -- an event's conditions are what its action asks at its time
 pub asked_event : (D : Domain) (objs : List Object) (e : Event) (fs : List Fact)
-    → asked D objs (time_of e.moment) e.ground fs ≡ own_hold D objs fs e
+    → asked D objs (time_of e.moment) e.act fs ≡ own_hold D objs fs e
 unfolding asked
 asked_event D objs e fs = go e.moment
   where
-    go : (m : Moment) → asked D objs (time_of m) e.ground fs ≡ own_hold D objs fs (record { moment = m; ground = e.ground })
+    go : (m : Moment) → asked D objs (time_of m) e.act fs ≡ own_hold D objs fs (record { moment = m; act = e.act })
     go Start = refl
     go End = refl
 
@@ -266,7 +266,7 @@ all_parts {A} q (part ∷ parts) = joined part ∙ ap (λ (b : Bool). all q part
         both false b = refl
 
 pub step_asks : {D : Domain} {head : List ℕ} {es : List Event} {memory : List ℕ} {total : ℕ} → Grounded D head es memory total
-    → {objs : List Object} {fs : List Fact} → OverObjects D objs fs (map (λ (e : Event). e.ground) es)
+    → {objs : List Object} {fs : List Fact} → OverObjects D objs fs (map (λ (e : Event). e.act) es)
     → (facts : List (List ℕ)) → facts ≡ map fact_row fs
     → all (condition_met facts) (ground_in total memory) ≡ all (own_hold D objs fs) es
 step_asks {D} {head} {es} G {objs} {fs} C facts f =
@@ -274,7 +274,7 @@ step_asks {D} {head} {es} G {objs} {fs} C facts f =
     ∙ all_parts (condition_met (map fact_row fs)) (map (event_literals D) es)
     ∙ all_map (event_literals D) (all (condition_met (map fact_row fs))) es
     ∙ all_agree (λ (e : Event). all (condition_met (map fact_row fs)) (event_literals D e)) (own_hold D objs fs) es
-    (λ e m. ground_asks G.says C e.ground (G.fit e m) (Memᴰ.map (λ (e : Event). e.ground) m) (time_of e.moment)
+    (λ e m. ground_asks G.says C e.act (G.fit e m) (Memᴰ.map (λ (e : Event). e.act) m) (time_of e.moment)
     ∙ asked_event D objs e fs)
 
 -- ---- the open entries, one after the other

@@ -82,10 +82,10 @@ usage_in e l = usage_for (time_of e.moment) (role_number l.role)
 
 -- the literal's row there
 abbrev row_in : Event → Literal → List ℕ
-row_in e l = pattern_row e.ground.binding l.atom
+row_in e l = pattern_row e.act.binding l.atom
 
 abbrev literals_of : Domain → Event → List Literal
-literals_of D e = (action D e.ground.action).lits
+literals_of D e = (action D e.act.action).lits
 
 -- two literals' rows meet
 abbrev meet_in : Event → Event → Literal → Literal → Bool
@@ -98,14 +98,14 @@ shared c d e f l m = eqb (usage_in e l) c && (eqb (usage_in f m) d && meet_in e 
 -- an event of the domain over the chosen objects
 record Facing (D : Domain) (objs : List Object) (e : Event) : Type 0 where
   kept : (l : Literal) → In l (literals_of D e) → Kept D l
-  bound : (l : Literal) → In l (literals_of D e) → LiteralBound D e.ground.binding l.atom
-  over : (o : Object) → In o e.ground.binding → In o objs
+  bound : (l : Literal) → In l (literals_of D e) → LiteralBound D e.act.binding l.atom
+  over : (o : Object) → In o e.act.binding → In o objs
 
 own_bound : {D : Domain} {objs : List Object} {e : Event} → Facing D objs e → (c : Usage)
-    → LiteralsBound D e.ground.binding (literals_at (action D e.ground.action) e.moment c)
+    → LiteralsBound D e.act.binding (literals_at (action D e.act.action) e.moment c)
 own_bound {D} {e = e} E c p m =
-    let r = literals_at_in (action D e.ground.action) e.moment c m in
-    subst (LiteralBound D e.ground.binding) (sym r.3) (E.bound r.0 r.1)
+    let r = literals_at_in (action D e.act.action) e.moment c m in
+    subst (LiteralBound D e.act.binding) (sym r.3) (E.bound r.0 r.1)
 
 -- there is a chosen object, and none is FF
 module _ (D : Domain) (objs : List Object) (some : (o : Object) × In o objs) (low : (o : Object) → In o objs → o.0 < 255)
@@ -114,15 +114,15 @@ module _ (D : Domain) (objs : List Object) (some : (o : Object) × In o objs) (l
       ≡ pairs (shared (suc (usage_number c)) (suc (usage_number d)) e f) (literals_of D e) (literals_of D f)
   unfolding event_facts
   meet_shared c d =
-      common_rows D objs low some.0 some.1 e.ground.binding f.ground.binding E.over F.over
-      (literals_at (action D e.ground.action) e.moment c) later (own_bound E c) (own_bound F d)
-      ∙ any_literals (action D e.ground.action) e.moment c (λ p. any (λ q. patterns_meet (row p) (row_of q)) later)
+      common_rows D objs low some.0 some.1 e.act.binding f.act.binding E.over F.over
+      (literals_at (action D e.act.action) e.moment c) later (own_bound E c) (own_bound F d)
+      ∙ any_literals (action D e.act.action) e.moment c (λ p. any (λ q. patterns_meet (row p) (row_of q)) later)
       ∙ any_role (counts_for (time_of e.moment) c) (λ p. any (λ q. patterns_meet (row p) (row_of q)) later) (literals_of D e)
       ∙ any_agree (λ (l : Literal). counts_for (time_of e.moment) c l.role && any (λ q. patterns_meet (row_in e l) (row_of q)) later)
       (λ (l : Literal). any (shared (suc (usage_number c)) (suc (usage_number d)) e f l) (literals_of D f)) (literals_of D e)
       (λ l i.
       ap₂ ◌&&◌ (sym (usage_counts (time_of e.moment) c l (E.kept l i)))
-      (any_literals (action D f.ground.action) f.moment d (λ q. patterns_meet (row_in e l) (row_of q))
+      (any_literals (action D f.act.action) f.moment d (λ q. patterns_meet (row_in e l) (row_of q))
       ∙ any_role (counts_for (time_of f.moment) d) (λ q. patterns_meet (row_in e l) (row_of q)) (literals_of D f)
       ∙ any_agree (λ (m : Literal). counts_for (time_of f.moment) d m.role && meet_in e f l m)
       (λ (m : Literal). eqb (usage_in f m) (suc (usage_number d)) && meet_in e f l m) (literals_of D f)
@@ -131,13 +131,13 @@ module _ (D : Domain) (objs : List Object) (some : (o : Object) × In o objs) (l
       (literals_of D f))
     where
       later : List (Atom Argument)
-      later = literals_at (action D f.ground.action) f.moment d
+      later = literals_at (action D f.act.action) f.moment d
 
       row : Atom Argument → List ℕ
-      row p = pattern_row e.ground.binding p
+      row p = pattern_row e.act.binding p
 
       row_of : Atom Argument → List ℕ
-      row_of q = pattern_row f.ground.binding q
+      row_of q = pattern_row f.act.binding q
 
 meet_left : (xs ys gs : List Fact) → meet (xs ++ ys) gs ≡ meet xs gs || meet ys gs
 meet_left xs ys gs = any_append (λ f. elem same_fact f gs) xs ys
@@ -284,17 +284,17 @@ module _ (D : Domain) (objs : List Object) (some : (o : Object) × In o objs) (l
 
 module _ {D : Domain} {head : List ℕ} (H : HeadOf D head) (objs : List Object) (some : (o : Object) × In o objs)
     (low : (o : Object) → In o objs → o.0 < 255) where
-  facing : (e : Event) → GroundFits D e.ground → ((o : Object) → In o e.ground.binding → In o objs) → Facing D objs e
+  facing : (e : Event) → GroundFits D e.act → ((o : Object) → In o e.act.binding → In o objs) → Facing D objs e
   facing e F over =
       record {
-        kept = head_kept H e.ground.action F.listed;
-        bound = literal_bound H.bounded (listed_in D e.ground.action F.listed) e.ground.binding F.bound;
+        kept = head_kept H e.act.action F.listed;
+        bound = literal_bound H.bounded (listed_in D e.act.action F.listed) e.act.binding F.bound;
         over = over;
       }
 
   -- no two interfere, by their ground literals
   pub apart_independent : (es : List Event) → EventsFit D es
-      → ((g : GroundAction) → In g (map (λ (e : Event). e.ground) es) → (o : Object) → In o g.binding → In o objs)
+      → ((g : GroundAction) → In g (map (λ (e : Event). e.act) es) → (o : Object) → In o g.binding → In o objs)
       → pairwise (λ first later. not (literals_clash first later)) (map (event_literals D) es) ≡ independent D objs es
   apart_independent [] F over = refl
   apart_independent (e ∷ es) F over =
@@ -303,8 +303,8 @@ module _ {D : Domain} {head : List ℕ} (H : HeadOf D head) (objs : List Object)
       ∙ all_agree (λ (f : Event). not (literals_clash (event_literals D e) (event_literals D f))) (λ (f : Event). not (interfere D objs e f)) es
       (λ f m.
       ap not
-      (literals_interfere D objs some low e f (facing e (F e (Memᴰ.head refl)) (over e.ground (Memᴰ.head refl)))
-      (facing f (F f (Memᴰ.tail m)) (over f.ground (Memᴰ.tail (Memᴰ.map (λ (e : Event). e.ground) m)))))))
+      (literals_interfere D objs some low e f (facing e (F e (Memᴰ.head refl)) (over e.act (Memᴰ.head refl)))
+      (facing f (F f (Memᴰ.tail m)) (over f.act (Memᴰ.tail (Memᴰ.map (λ (e : Event). e.act) m)))))))
       (apart_independent es (λ f m. F f (Memᴰ.tail m)) (λ g m. over g (Memᴰ.tail m)))
 
 -- nor do fewer than two

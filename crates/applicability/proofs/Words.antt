@@ -130,7 +130,7 @@ all_told {head = head} {memory = memory} {total = total} G patterns e i j h g =
     told head (ground_at memory i).row (ground_at memory j).row (at i h) (at j g) patterns (λ k. (plain k i h, plain k j g))
   where
     at : (i : ℕ) → i < total → Worded head (ground_at memory i).row
-    at i h = let r = step_of G (ground_at memory i) (ground_in_lem memory total i h) in worded G.says r.0.ground (G.fit r.0 r.1) r.2
+    at i h = let r = step_of G (ground_at memory i) (ground_in_lem memory total i h) in worded G.says r.0.act (G.fit r.0 r.1) r.2
 
     plain : patterns ≡ false → (i : ℕ) → i < total → is_pattern (ground_at memory i).row ≡ false
     plain k i h = any_out is_pattern (sym e ∙ k) (row_in memory total i h)

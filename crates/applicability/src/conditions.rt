@@ -162,7 +162,7 @@ pub fn events_met(memory: &[u8], total: usize, index: &FactIndex, work: &[u8], n
     ensures { (D : Domain) (head : List ℕ) (es : List Event) (fs : List Fact)
         → Grounded D head es memory.now total → rows_in n work.now ≡ map fact_row fs
         → Indexed head index.now (map fact_row fs) → (objs : List Object)
-        → OverObjects D objs fs (map (λ (e : Event). e.ground) es) → result ≡ all (own_hold D objs fs) es }
+        → OverObjects D objs fs (map (λ (e : Event). e.act) es) → result ≡ all (own_hold D objs fs) es }
 {
     conditions_met(memory, total, index, work, n)
 }

@@ -165,7 +165,7 @@ pub fn independent(memory: &[u8], count: usize, total: usize) -> bool
     requires few { total ≤ max_ground }
     ensures { (D : Domain) (head : List ℕ) (es : List Event) → Grounded D head es memory.now total
         → length es ≡ count → length es ≤ max_events → (objs : List Object) → (o : Object) × In o objs
-        → OverObjects D objs [] (map (λ (e : Event). e.ground) es)
+        → OverObjects D objs [] (map (λ (e : Event). e.act) es)
         → result ≡ independent D objs es }
 {
     if MAX_EVENTS < count {

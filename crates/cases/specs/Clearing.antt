@@ -299,7 +299,7 @@ bare =
     }
 
 abbrev sole : ℕ → Event
-sole i = record { moment = Start; ground = record { action = i; binding = [] } }
+sole i = record { moment = Start; act = record { action = i; binding = [] } }
 
 pub record Objects : Type 0 where
   pub one_each : event_facts bare (object 3 ∷ object 5 ∷ []) (sole 0) Delete

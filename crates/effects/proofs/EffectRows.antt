@@ -47,7 +47,7 @@ use Rattle.events.proofs.Meeting.{Formed, chosen_meets}
 use Rattle.events.proofs.Members.{map_in}
 use Rattle.effects.specs.Held.{scratch_bytes, effects_in, literals_in, rows_of_usage, flat, any_meets, is_struck}
 use Rattle.effects.proofs.Joins.{dedup_map_dedup, same_append}
-use Rattle.effects.proofs.FilledRows.{Whole, section_part, rows_own, rows_split, Filled, filled_rows, filled_more, filled_own, struck_by}
+use Rattle.effects.proofs.FilledRows.{Whole, section_part, rows_own, rows_split, Filled, filled_more, filled_own, struck_by}
 
 -- ---- a ground literal in the scratch memory
 
@@ -184,21 +184,21 @@ two_few c d n (l ∷ ls) = go (eqb l.usage c) refl (eqb l.usage d) refl (two_few
     go false e false f h = omega arith
 
 -- what a step strikes and then what it adds, in a memory
-pub record Told (ground : List GroundLiteral) (m end : ℕ) (out : List ℕ) : Type 0 where
+pub record Told (act : List GroundLiteral) (m end : ℕ) (out : List ℕ) : Type 0 where
   pub order : m ≤ end
   pub few : end ≤ max_ground
-  pub struck : rows_in m out ≡ rows_of_usage 4 ground
-  pub added : rows_in (end - m) (drop (8 * m) out) ≡ rows_of_usage 3 ground
+  pub struck : rows_in m out ≡ rows_of_usage 4 act
+  pub added : rows_in (end - m) (drop (8 * m) out) ≡ rows_of_usage 3 act
 
-pub told : (ground again : List GroundLiteral) (m end : ℕ) (out₁ out : List ℕ) → length ground ≤ max_ground → again ≡ ground
-    → m ≡ 0 + length (rows_of_usage 4 ground) → rows_in m out₁ ≡ rows_of_usage 4 ground → end ≡ m + length (rows_of_usage 3 again)
-    → rows_in end out ≡ rows_in m out₁ ++ rows_of_usage 3 again → Told ground m end out
-told ground again m end out₁ out few same c f d g =
-    let t = two_few 4 3 (λ e. omega arith) ground in
+pub told : (act again : List GroundLiteral) (m end : ℕ) (out₁ out : List ℕ) → length act ≤ max_ground → again ≡ act
+    → m ≡ 0 + length (rows_of_usage 4 act) → rows_in m out₁ ≡ rows_of_usage 4 act → end ≡ m + length (rows_of_usage 3 again)
+    → rows_in end out ≡ rows_in m out₁ ++ rows_of_usage 3 again → Told act m end out
+told act again m end out₁ out few same c f d g =
+    let t = two_few 4 3 (λ e. omega arith) act in
     let k = ap (λ (ls : List GroundLiteral). length (rows_of_usage 3 ls)) same in
-    let z : length (rows_of_usage 4 ground) ≡ m = omega arith in
+    let z : length (rows_of_usage 4 act) ≡ m = omega arith in
     let both = g ∙ ap₂ (λ (xs : List (List ℕ)) (ls : List GroundLiteral). xs ++ rows_of_usage 3 ls) f same in
-    let r = rows_split out m end (rows_of_usage 4 ground) (rows_of_usage 3 ground) (omega arith) z both in
+    let r = rows_split out m end (rows_of_usage 4 act) (rows_of_usage 3 act) (omega arith) z both in
     record { order = omega arith; few = omega arith; struck = r.0; added = r.1 }
 
 -- how many are filled
@@ -230,7 +230,7 @@ rows_of P usage ls h row m =
 
 -- the rows of an event's literals of one usage, so bound, and those of the events of a step
 abbrev pub event_rows : Domain → Event → Usage → List (List ℕ)
-event_rows D e c = map (pattern_row e.ground.binding) (with_role (own e.moment c) (action D e.ground.action).lits)
+event_rows D e c = map (pattern_row e.act.binding) (with_role (own e.moment c) (action D e.act.action).lits)
 
 abbrev pub effect_rows : Domain → List Event → Usage → List (List ℕ)
 effect_rows D es c = flat_map (λ (e : Event). event_rows D e c) es
@@ -255,17 +255,17 @@ literal_rows_lem t c b (l ∷ ls) k =
     usage : ℕ
     usage = usage_for t (role_number l.role)
 
-    ground : Literal → GroundLiteral
-    ground l = record { usage = usage_for t (role_number l.role); row = pattern_row b l.atom }
+    act : Literal → GroundLiteral
+    act l = record { usage = usage_for t (role_number l.role); row = pattern_row b l.atom }
 
     rest : List GroundLiteral
-    rest = map ground (filter_by (λ (l : Literal). not (eqb (usage_for t (role_number l.role)) 0)) ls)
+    rest = map act (filter_by (λ (l : Literal). not (eqb (usage_for t (role_number l.role)) 0)) ls)
 
     atoms : List (Atom Argument)
     atoms = with_role (counts_for t c) ls
 
     one : (d : Bool) → rows_of_usage (suc (usage_number c)) rest ≡ map (pattern_row b) atoms
-        → map (λ (g : GroundLiteral). g.row) (keep_if d (ground l) (filter_by (λ (g : GroundLiteral). eqb g.usage (suc
+        → map (λ (g : GroundLiteral). g.row) (keep_if d (act l) (filter_by (λ (g : GroundLiteral). eqb g.usage (suc
         (usage_number c))) rest))
         ≡ map (pattern_row b) (keep_if d l.atom atoms)
     one true e = ap (λ (r : List (List ℕ)). pattern_row b l.atom ∷ r) e
@@ -274,22 +274,22 @@ literal_rows_lem t c b (l ∷ ls) k =
     go : (z : Bool) → eqb usage 0 ≡ z → (d : Bool) → eqb usage (suc (usage_number c)) ≡ d
         → rows_of_usage (suc (usage_number c)) rest ≡ map (pattern_row b) atoms
         → rows_of_usage (suc (usage_number c))
-        (map ground (keep_if (not z) l (filter_by (λ (l : Literal). not (eqb (usage_for t (role_number l.role)) 0)) ls)))
+        (map act (keep_if (not z) l (filter_by (λ (l : Literal). not (eqb (usage_for t (role_number l.role)) 0)) ls)))
         ≡ map (pattern_row b) (keep_if d l.atom atoms)
     go true x true y e = let p = eqb-true usage 0 x in let q = eqb-true usage (suc (usage_number c)) y in absurd (omega arith)
     go true x false y e = e
     go false x d y e =
         ap (λ (d : Bool). map (λ (g : GroundLiteral). g.row)
-        (keep_if d (ground l) (filter_by (λ (g : GroundLiteral). eqb g.usage (suc (usage_number c))) rest))) y
+        (keep_if d (act l) (filter_by (λ (g : GroundLiteral). eqb g.usage (suc (usage_number c))) rest))) y
         ∙ one d e
 
 module _ {D : Domain} {head : List ℕ} (H : HeadOf D head) (c : Usage) where
-  event_rows_lem : (e : Event) → GroundFits D e.ground → rows_of_usage (suc (usage_number c)) (event_literals D e) ≡ event_rows D e c
+  event_rows_lem : (e : Event) → GroundFits D e.act → rows_of_usage (suc (usage_number c)) (event_literals D e) ≡ event_rows D e c
   unfolding ground_literals
   event_rows_lem e F =
-      literal_rows_lem (time_of e.moment) c e.ground.binding (action D e.ground.action).lits (head_kept H e.ground.action
+      literal_rows_lem (time_of e.moment) c e.act.binding (action D e.act.action).lits (head_kept H e.act.action
       F.listed)
-      ∙ ap (map (pattern_row e.ground.binding)) (own_at e.moment c (action D e.ground.action).lits)
+      ∙ ap (map (pattern_row e.act.binding)) (own_at e.moment c (action D e.act.action).lits)
 
   step_rows : (es : List Event) → EventsFit D es
       → rows_of_usage (suc (usage_number c)) (in_one (map (event_literals D) es)) ≡ effect_rows D es c
@@ -308,7 +308,7 @@ grounded_rows {es = es} G c = ap (rows_of_usage (suc (usage_number c))) G.laid.f
 
 -- what an event adds, literal by literal, a literal that stands twice counted twice; and what the events of a step add
 abbrev event_adds : Domain → Event → List Fact
-event_adds D e = map (bind e.ground.binding) (with_role (own e.moment Add) (action D e.ground.action).lits)
+event_adds D e = map (bind e.act.binding) (with_role (own e.moment Add) (action D e.act.action).lits)
 
 abbrev step_adds : Domain → List Event → List Fact
 step_adds D es = flat_map (event_adds D) es
@@ -327,15 +327,15 @@ plain_rows b (p ∷ ps) h =
     (plain_rows b ps (λ q m. h q (Memᴰ.tail m)))
 
 module _ {D : Domain} {head : List ℕ} (H : HeadOf D head) (objs : List Object) where
-  module _ (e : Event) (F : GroundFits D e.ground) where
+  module _ (e : Event) (F : GroundFits D e.act) where
     abbrev objects : Binding
-    objects = e.ground.binding
+    objects = e.act.binding
 
     abbrev act : Action
-    act = action D e.ground.action
+    act = action D e.act.action
 
     listed : In act D.actions
-    listed = listed_in D e.ground.action F.listed
+    listed = listed_in D e.act.action F.listed
 
     adds_plain : (p : Atom Argument) → In p (literals_at act e.moment Add) → count_by is_every p.args ≡ 0
     adds_plain p m =
@@ -399,13 +399,13 @@ module _ {D : Domain} {head : List ℕ} (H : HeadOf D head) (objs : List Object)
           ∙ any_agree (same_list eqb (fact_row f)) (λ row. patterns_meet row (fact_row f)) rows
           (λ row m. same_list_comm eqb eqb_comm (fact_row f) row ∙ sym (chosen_meets H C (formed row m) (any_out is_pattern n m) f i))
 
-  step_struck : {fs : List Fact} (es : List Event) → OverObjects D objs fs (map (λ (e : Event). e.ground) es) → EventsFit D es
+  step_struck : {fs : List Fact} (es : List Event) → OverObjects D objs fs (map (λ (e : Event). e.act) es) → EventsFit D es
       → (f : Fact) → In f fs → any_meets (effect_rows D es Delete) (fact_row f) ≡ elem same_fact f (step_facts D objs es Delete)
   unfolding step_facts
   step_struck es C F f i =
       any_flat (λ (e : Event). event_rows D e Delete) (λ row. patterns_meet row (fact_row f)) es
       ∙ any_agree (λ (e : Event). any_meets (event_rows D e Delete) (fact_row f)) (λ (e : Event). elem same_fact f (event_facts D objs e Delete)) es
-      (λ e m. event_struck e (F e m) C.low (C.bindings e.ground (Memᴰ.map (λ (e : Event). e.ground) m)) f (C.facts f i))
+      (λ e m. event_struck e (F e m) C.low (C.bindings e.act (Memᴰ.map (λ (e : Event). e.act) m)) f (C.facts f i))
       ∙ sym (any_flat (λ (e : Event). event_facts D objs e Delete) (same_fact f) es)
 
 -- what a step strikes and adds, as rows, and as the machine says it
@@ -418,7 +418,7 @@ pub record EffectsOf (D : Domain) (objs : List Object) (fs : List Fact) (es : Li
   pub sized : Sized head added
 
 pub effects_of : {D : Domain} {objs : List Object} {fs : List Fact} {es : List Event} {head memory : List ℕ} {total : ℕ}
-    → Grounded D head es memory total → OverObjects D objs fs (map (λ (e : Event). e.ground) es) → {struck added : List (List ℕ)}
+    → Grounded D head es memory total → OverObjects D objs fs (map (λ (e : Event). e.act) es) → {struck added : List (List ℕ)}
     → struck ≡ rows_of_usage 4 (ground_in total memory) → added ≡ rows_of_usage 3 (ground_in total memory)
     → EffectsOf D objs fs es head struck added
 effects_of {D} {objs} {fs} {es} {head} {memory} {total} G C {struck} {added} s a =

@@ -6,8 +6,8 @@ use mathlib.Core.List.{List, [], ◌∷◌, ◌++◌, append-nil}
 use Prim.Native.Nat.{ℕ, ◌+◌, ◌-◌, ◌*◌, ◌≤◌, ◌<◌}
 use native.Mathlib.Omega.{arith}
 use lib.Dec.{eqb}
-use lib.ListN.{length, get_or, set, take, drop, length-drop}
-use lib.Seq.{get_or-drop, get_or-set_same, get_or-set_other, length-take-le, take-take, take-add, drop_at, drop-drop}
+use lib.ListN.{length, get_or, set, take, drop}
+use lib.Seq.{get_or-drop, get_or-set_same, get_or-set_other, drop-drop}
 use borrow.Author.Tests.{eqb-true, eqb-false, eq-eqb}
 use Rattle.records.specs.Lists.{In, filter_by, same_list}
 use Rattle.records.specs.Memory.{over}

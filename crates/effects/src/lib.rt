@@ -329,7 +329,7 @@ pub fn facts_after(
     requires total { total ≤ max_ground }
     ensures few { (result.kept ≤ n) × (result.kept ≤ result.facts) × (result.facts ≤ max_facts + 1) }
     ensures after { (D : Domain) (objs : List Object) (es : List Event) (fs : List Fact)
-        → OverObjects D objs fs (map (λ (e : Event). e.ground) es)
+        → OverObjects D objs fs (map (λ (e : Event). e.act) es)
         → Grounded D head.now es (literals_in scratch.old) total
         → rows_in n work.now ≡ map fact_row fs → Indexed head.now index.old (map fact_row fs)
         → HoldsAfter D objs fs es head.now result scratch.new index.new }

@@ -1,6 +1,6 @@
 -- Sections of one memory: a section that is changed holds what was put there, and the others are as they were. Assumes nothing.
-use mathlib.Core.Path.{◌≡◌, refl, sym, ap, ap₂, ◌∙◌}
-use mathlib.Core.List.{List, [], ◌∷◌, ◌++◌, flat_map, append_assoc, append-nil}
+use mathlib.Core.Path.{◌≡◌, sym, ap, ap₂, ◌∙◌}
+use mathlib.Core.List.{List, [], ◌∷◌, ◌++◌, flat_map, append_assoc}
 use Prim.Native.Nat.{ℕ, ◌+◌, ◌-◌, ◌*◌, ◌≤◌, ◌<◌}
 use native.Mathlib.Omega.{arith}
 use lib.ListN.{length, take, drop, set, replicate, length-set, length-append, length-drop, length-replicate, take-append-drop}
@@ -12,8 +12,8 @@ use Rattle.literals.specs.Held.{Bounded}
 use Rattle.literals.specs.Matching.{moment_number}
 use Rattle.verdict.specs.Machine.{Event}
 use Rattle.run_semantics.specs.RunFile.{max_events}
-use Rattle.events.specs.Held.{Open, Waiting, agenda_bytes, moments_at, events_at, open_bytes, waiting_bytes, entries_in, moments_in}
-use Rattle.events.specs.Held.{event_rows_in, agenda_open, agenda_waiting, ground_row, waiting_of, EventsFit}
+use Rattle.events.specs.Held.{agenda_bytes, moments_at, events_at, open_bytes, waiting_bytes, entries_in, moments_in}
+use Rattle.events.specs.Held.{event_rows_in, agenda_waiting, ground_row, waiting_of, EventsFit}
 use Rattle.events.proofs.GroundRows.{whole_copy}
 use Rattle.events.proofs.MoreWaiting.{waiting_more}
 
@@ -97,12 +97,12 @@ module _ (agenda : List ℕ) (n moment : ℕ) (l : length agenda ≡ agenda_byte
     marked_rows = ap (take waiting_bytes) (drop-set-lt events_at agenda (moments_at + n) moment (omega arith))
 
     pub more_waits : {D : Domain} → Bounded D → (es : List Event) → EventsFit D es → agenda_waiting n agenda ≡ waiting_of es
-        → (e : Event) (ground : List ℕ) → moment ≡ moment_number e.moment → ground ≡ ground_row e.ground
-        → rows ≡ paste (event_rows_in marked) (17 * n) ground (length ground) → agenda_waiting (n + 1) more ≡ waiting_of (es ++ (e ∷ []))
-    more_waits B es F w e ground m g p =
+        → (e : Event) (act : List ℕ) → moment ≡ moment_number e.moment → act ≡ ground_row e.act
+        → rows ≡ paste (event_rows_in marked) (17 * n) act (length act) → agenda_waiting (n + 1) more ≡ waiting_of (es ++ (e ∷ []))
+    more_waits B es F w e act m g p =
         (λ i. record { count = n + 1; moments = more_moments i; rows = section_is events_at waiting_bytes marked rows room rows_sized i })
-        ∙ waiting_more B es F (agenda_waiting n agenda) w few e moment ground rows m g
-        (p ∙ ap (λ (t : List ℕ). paste t (17 * n) ground (length ground)) marked_rows)
+        ∙ waiting_more B es F (agenda_waiting n agenda) w few e moment act rows m g
+        (p ∙ ap (λ (t : List ℕ). paste t (17 * n) act (length act)) marked_rows)
 
 -- ---- the agenda after a step: other entries, and no event
 

@@ -8,8 +8,8 @@ use Prim.Native.Nat.{ℕ, zero, suc, ◌+◌, ◌-◌, ◌*◌, ◌≤◌, ◌<�
 use native.Mathlib.Numerals.{add-one}
 use native.Mathlib.Omega.{arith}
 use lib.Dec.{eqb}
-use lib.ListN.{length, get_or, take, drop, replicate, length-append, length-map, length-replicate, length-drop, get_or-append, get_or-map}
-use lib.Seq.{take_at, length-take-le}
+use lib.ListN.{length, get_or, take, drop, replicate, length-append, length-map, length-replicate, get_or-append, get_or-map}
+use lib.Seq.{take_at}
 use borrow.Author.Tests.{eqb-true, eqb-false, lt-ltb}
 use Rattle.records.specs.Lists.{In, all, any, same_list, elem, dedup}
 use Rattle.records.proofs.Lists.{and_r, bool_cases, off, clash, any_map, any_in, in_any, all_in, all_of, get_d_in, all_below, below_in, in_dedup, dedup_in}
@@ -23,7 +23,7 @@ use Rattle.literals.specs.declared.Usage.{Usage}
 use Rattle.literals.specs.declared.Usage.TheVariants.{Positive, Negative, Add, Delete}
 use Rattle.literals.specs.declared.Role.{Role}
 use Rattle.literals.specs.Domain.{object, same_object, variables_of, Atom, Fact, same_literal, same_fact, usage_number, role_number, role_of}
-use Rattle.literals.specs.Domain.{same_time, same_usage, may_clear, Literal, Action, Domain, arity, no_action, action}
+use Rattle.literals.specs.Domain.{same_time, same_usage, may_clear, Literal, Action, Domain, no_action, action}
 use Rattle.literals.specs.Held.{argument_number, literal_row, rows_in, Bounded, actions_in, arity_in, HeadOf, Held, SpanOf, usage_for}
 use Rattle.literals.proofs.Equality.{literal_eq}
 use Rattle.literals.proofs.Tables.{Kept, kept, length_literal_row, rows_flat, pad_at}
@@ -32,7 +32,7 @@ use Rattle.literals.specs.declared.Moment.TheVariants.{Start, End}
 use Rattle.literals.specs.Matching.{moment_number, own, over_all, with_role, literals_at}
 use Rattle.classes.proofs.Rows.{row_flat}
 use Rattle.literals.proofs.Indices.{any_agree}
-use Rattle.verdict.specs.Binding.{Binding, value_of}
+use Rattle.verdict.specs.Binding.{Binding}
 use Rattle.verdict.specs.Held.{argument_byte, pattern_row, fact_row}
 use Rattle.verdict.specs.Judged.{object_numbers}
 use Rattle.verdict.specs.Machine.{GroundAction, Event}
@@ -250,8 +250,8 @@ module _ {D : Domain} {head table : List ℕ} (H : Held D head table) where
       (λ v w. let b = B.below (action D g.action) i l m v w in omega arith)
 
   -- an action with its objects, found by its row: it is one of the domain's
-  pub ground_listed : (g : GroundAction) → GroundFits D g → (ground : List ℕ) → ground ≡ ground_row g → actions_in head ≤ get_or ground 0 0 → ⊥
-  ground_listed g F ground e h =
+  pub ground_listed : (g : GroundAction) → GroundFits D g → (act : List ℕ) → act ≡ ground_row g → actions_in head ≤ get_or act 0 0 → ⊥
+  ground_listed g F act e h =
       let a = ap (λ (x : List ℕ). get_or x 0 0) e in
       let c = H.says.actions in
       let l = F.listed in
@@ -264,7 +264,7 @@ abbrev pub no_ground : GroundAction
 no_ground = record { action = 0; binding = [] }
 
 abbrev pub no_event : Event
-no_event = record { moment = Start; ground = no_ground }
+no_event = record { moment = Start; act = no_ground }
 
 -- the row of an open entry, by its index
 pub open_row_at : (gs : List GroundAction) → ((g : GroundAction) → In g gs → length g.binding ≤ 16) → (o : Open) → o ≡ open_of gs → (i : ℕ) → i < length gs
@@ -279,12 +279,12 @@ unfolding open_of
 open_count gs o e = ap (λ (x : Open). x.count) e
 
 -- the row of a waiting event's action, and its moment
-pub waiting_row_at : (es : List Event) → ((e : Event) → In e es → length e.ground.binding ≤ 16) → (w : Waiting) → w ≡ waiting_of es → (i : ℕ) → i < length es
-    → take 17 (drop (17 * i) w.rows) ≡ ground_row (get_or es i no_event).ground
+pub waiting_row_at : (es : List Event) → ((e : Event) → In e es → length e.act.binding ≤ 16) → (w : Waiting) → w ≡ waiting_of es → (i : ℕ) → i < length es
+    → take 17 (drop (17 * i) w.rows) ≡ ground_row (get_or es i no_event).act
 unfolding waiting_of
 waiting_row_at es h w p i b =
     ap (λ (x : Waiting). take 17 (drop (17 * i) x.rows)) p
-    ∙ row_flat (λ (e : Event). ground_row e.ground) es (replicate (272 - length (flat_map (λ (e : Event). ground_row e.ground) es)) 0) no_event (λ e m. length_ground_row e.ground (h e m)) i b
+    ∙ row_flat (λ (e : Event). ground_row e.act) es (replicate (272 - length (flat_map (λ (e : Event). ground_row e.act) es)) 0) no_event (λ e m. length_ground_row e.act (h e m)) i b
 
 pub waiting_moment_at : (es : List Event) (w : Waiting) → w ≡ waiting_of es → (i : ℕ) → get_or w.moments i 0 ≡ moment_number (get_or es i no_event).moment
 unfolding waiting_of

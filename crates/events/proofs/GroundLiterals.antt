@@ -8,7 +8,7 @@ use Prim.Native.Nat.{ℕ, zero, suc, ◌+◌, ◌-◌, ◌*◌, ◌≤◌, ◌<�
 use native.Mathlib.Numerals.{add-one}
 use native.Mathlib.Omega.{arith}
 use lib.Dec.{eqb, ltb}
-use lib.ListN.{length, get_or, set, take, drop, length-append, length-map, length-set, get_or-append}
+use lib.ListN.{length, get_or, set, take, drop, length-append, length-map, get_or-append}
 use lib.Seq.{paste, length-paste, length_paste_head, take-paste, drop-paste, take_all, take-suc, take-add, take-take, take-append-le}
 use lib.Seq.{take-set-le}
 use lib.Seq.{drop_at, drop-drop, drop-set-add, drop-set-lt, get_or_at, get_or-drop, get_or-set_same, get_or-set_other, length-take-le}
@@ -212,17 +212,17 @@ ground_count memory n memory₀ at ls e =
 -- ---- the row of one literal
 
 abbrev row_literal : Time → List ℕ → List ℕ → List ℕ → GroundLiteral
-row_literal t head ground row = record { usage = usage_for t (byte row 0); row = bound_row head ground row }
+row_literal t head act row = record { usage = usage_for t (byte row 0); row = bound_row head act row }
 
 abbrev row_counts : Time → List ℕ → Bool
 row_counts t row = not (eqb (usage_for t (byte row 0)) 0)
 
-module _ (t : Time) (head ground rows : List ℕ) (at k : ℕ) (e : k ≡ usage_for t (get_or rows at 0)) (first : List GroundLiteral) where
+module _ (t : Time) (head act rows : List ℕ) (at k : ℕ) (e : k ≡ usage_for t (get_or rows at 0)) (first : List GroundLiteral) where
   abbrev one : List GroundLiteral
-  one = row_literals t head ground (take 8 (drop at rows) ∷ [])
+  one = row_literals t head act (take 8 (drop at rows) ∷ [])
 
   abbrev one_if : Bool → List GroundLiteral
-  one_if b = map (row_literal t head ground) (keep_if (not b) (take 8 (drop at rows)) [])
+  one_if b = map (row_literal t head act) (keep_if (not b) (take 8 (drop at rows)) [])
 
   usage_is : usage_for t (byte (take 8 (drop at rows)) 0) ≡ k
   usage_is = ap (usage_for t) (part_first rows at) ∙ sym e
@@ -234,7 +234,7 @@ module _ (t : Time) (head ground rows : List ℕ) (at k : ℕ) (e : k ≡ usage_
   pub row_none : k ≡ 0 → first ≡ first ++ one
   row_none h = sym (ap (λ (l : List GroundLiteral). first ++ l) (one_is ∙ ap one_if (eq-eqb k 0 h)) ∙ append-nil first)
 
-  pub row_one : (k ≡ 0 → ⊥) → (row : List ℕ) → row ≡ bound_row head ground (take 8 (drop at rows)) → {next : List GroundLiteral}
+  pub row_one : (k ≡ 0 → ⊥) → (row : List ℕ) → row ≡ bound_row head act (take 8 (drop at rows)) → {next : List GroundLiteral}
       → next ≡ first ++ (record { usage = k; row = row } ∷ []) → next ≡ first ++ one
   row_one h row f g =
       g
@@ -244,51 +244,51 @@ module _ (t : Time) (head ground rows : List ℕ) (at k : ℕ) (e : k ≡ usage_
 
 -- ---- the rows of an action's literals
 
-module _ (t : Time) (head ground : List ℕ) where
-  row_literals_few : (l : List (List ℕ)) → length (row_literals t head ground l) ≤ length l
+module _ (t : Time) (head act : List ℕ) where
+  row_literals_few : (l : List (List ℕ)) → length (row_literals t head act l) ≤ length l
   unfolding row_literals
   row_literals_few l =
       let f = filter_few (row_counts t) l in
-      let m = length-map (filter_by (row_counts t) l) (row_literal t head ground) in
+      let m = length-map (filter_by (row_counts t) l) (row_literal t head act) in
       omega arith
 
   row_literals_snoc : (l : List (List ℕ)) (row : List ℕ)
-      → row_literals t head ground (l ++ (row ∷ [])) ≡ row_literals t head ground l ++ row_literals t head ground (row ∷ [])
+      → row_literals t head act (l ++ (row ∷ [])) ≡ row_literals t head act l ++ row_literals t head act (row ∷ [])
   unfolding row_literals
   row_literals_snoc l row =
-      ap (map (row_literal t head ground)) (filter_append (row_counts t) l (row ∷ []))
-      ∙ map-append (row_literal t head ground) (filter_by (row_counts t) l) (filter_by (row_counts t) (row ∷ []))
+      ap (map (row_literal t head act)) (filter_append (row_counts t) l (row ∷ []))
+      ∙ map-append (row_literal t head act) (filter_by (row_counts t) l) (filter_by (row_counts t) (row ∷ []))
 
   -- before the first, and one row more
   module _ (first : List GroundLiteral) (rows : List ℕ) where
-    pub rows_begin : first ≡ first ++ row_literals t head ground (rows_in 0 rows)
+    pub rows_begin : first ≡ first ++ row_literals t head act (rows_in 0 rows)
     unfolding row_literals
     rows_begin = sym (append-nil first)
 
-    pub rows_more : (j : ℕ) {before after : List GroundLiteral} → before ≡ first ++ row_literals t head ground (rows_in j rows)
-        → after ≡ before ++ row_literals t head ground (take 8 (drop (8 * j) rows) ∷ [])
-        → after ≡ first ++ row_literals t head ground (rows_in (j + 1) rows)
+    pub rows_more : (j : ℕ) {before after : List GroundLiteral} → before ≡ first ++ row_literals t head act (rows_in j rows)
+        → after ≡ before ++ row_literals t head act (take 8 (drop (8 * j) rows) ∷ [])
+        → after ≡ first ++ row_literals t head act (rows_in (j + 1) rows)
     rows_more j e f =
         let row : List ℕ = take 8 (drop (8 * j) rows) in
         f
-        ∙ ap (λ (l : List GroundLiteral). l ++ row_literals t head ground (row ∷ [])) e
-        ∙ append_assoc first (row_literals t head ground (rows_in j rows)) (row_literals t head ground (row ∷ []))
+        ∙ ap (λ (l : List GroundLiteral). l ++ row_literals t head act (row ∷ [])) e
+        ∙ append_assoc first (row_literals t head act (rows_in j rows)) (row_literals t head act (row ∷ []))
         ∙ ap (λ (l : List GroundLiteral). first ++ l)
-        (sym (ap (row_literals t head ground) (rows_snoc j rows) ∙ row_literals_snoc (rows_in j rows) row))
+        (sym (ap (row_literals t head act) (rows_snoc j rows) ∙ row_literals_snoc (rows_in j rows) row))
 
 -- where the loop over an action's rows stands
-pub record InRows (t : Time) (head ground rows : List ℕ) (at k : ℕ) (memory₀ memory : List ℕ) (n i : ℕ) : Type 0 where
+pub record InRows (t : Time) (head act rows : List ℕ) (at k : ℕ) (memory₀ memory : List ℕ) (n i : ℕ) : Type 0 where
   pub reach : i ≤ k
   pub sized : length memory ≡ length memory₀
-  pub literals : ground_in n memory ≡ ground_in at memory₀ ++ row_literals t head ground (rows_in i rows)
+  pub literals : ground_in n memory ≡ ground_in at memory₀ ++ row_literals t head act (rows_in i rows)
   pub counts : drop counts_at memory ≡ drop counts_at memory₀
 
 -- each row is one at most
-pub rows_few : (t : Time) (head ground rows : List ℕ) (i at : ℕ) (memory₀ memory : List ℕ) (n : ℕ)
-    → ground_in n memory ≡ ground_in at memory₀ ++ row_literals t head ground (rows_in i rows) → (at ≤ n) × (n ≤ at + i)
-rows_few t head ground rows i at memory₀ memory n e =
-    let c = ground_count memory n memory₀ at (row_literals t head ground (rows_in i rows)) e in
-    let f = row_literals_few t head ground (rows_in i rows) in
+pub rows_few : (t : Time) (head act rows : List ℕ) (i at : ℕ) (memory₀ memory : List ℕ) (n : ℕ)
+    → ground_in n memory ≡ ground_in at memory₀ ++ row_literals t head act (rows_in i rows) → (at ≤ n) × (n ≤ at + i)
+rows_few t head act rows i at memory₀ memory n e =
+    let c = ground_count memory n memory₀ at (row_literals t head act (rows_in i rows)) e in
+    let f = row_literals_few t head act (rows_in i rows) in
     let l = length_rows 8 i rows in
     (omega arith, omega arith)
 
@@ -323,12 +323,12 @@ row_ground t head g (l ∷ ls) h =
 
 module _ {D : Domain} {head table : List ℕ} (H : Held D head table) where
   -- the rows of its action, as the code finds them, behind others
-  pub held_ground : (g : GroundAction) → GroundFits D g → (t : Time) (ground : List ℕ) → ground ≡ ground_row g
+  pub held_ground : (g : GroundAction) → GroundFits D g → (t : Time) (act : List ℕ) → act ≡ ground_row g
       → (r : Span) → SpanOf D g.action table r → (first : List GroundLiteral) {whole : List GroundLiteral}
-      → whole ≡ first ++ row_literals t head ground (rows_in (r.to - r.from) (take (8 * r.to - 8 * r.from) (drop (8 * r.from) table)))
+      → whole ≡ first ++ row_literals t head act (rows_in (r.to - r.from) (take (8 * r.to - 8 * r.from) (drop (8 * r.from) table)))
       → whole ≡ first ++ ground_literals D t g
   unfolding ground_literals
-  held_ground g F t ground f r S first e =
+  held_ground g F t act f r S first e =
       let part : List ℕ = take (8 * r.to - 8 * r.from) (drop (8 * r.from) table) in
       e
       ∙ ap (λ (l : List GroundLiteral). first ++ l)
@@ -363,15 +363,15 @@ formed_of {D} {head} H g F r =
 
 -- of an event of the step
 pub step_of : {D : Domain} {head : List ℕ} {es : List Event} {memory : List ℕ} {total : ℕ} → Grounded D head es memory total
-    → (x : GroundLiteral) → In x (ground_in total memory) → (e : Event) × In e es × GroundOf D e.ground x
+    → (x : GroundLiteral) → In x (ground_in total memory) → (e : Event) × In e es × GroundOf D e.act x
 step_of {D} G x m =
     let p = flat_map_in (λ (part : List GroundLiteral). part) _ (subst (In x) G.laid.filled m) in
     let e = map_in _ _ p.1 in
-    (e.0, e.1, ground_of_lem D _ e.0.ground x (subst (In x) e.2 p.2))
+    (e.0, e.1, ground_of_lem D _ e.0.act x (subst (In x) e.2 p.2))
 
 pub step_formed : {D : Domain} {head : List ℕ} {es : List Event} {memory : List ℕ} {total : ℕ} → Grounded D head es memory total
     → (x : GroundLiteral) → In x (ground_in total memory) → Formed head x.row
-step_formed G x m = let r = step_of G x m in formed_of G.says r.0.ground (G.fit r.0 r.1) r.2
+step_formed G x m = let r = step_of G x m in formed_of G.says r.0.act (G.fit r.0 r.1) r.2
 
 -- ---- each row has the arity of its relation
 
@@ -393,7 +393,7 @@ pub step_sized : {D : Domain} {head : List ℕ} {es : List Event} {memory : List
 step_sized {D} {head} G x m =
     let p = flat_map_in (λ (part : List GroundLiteral). part) _ (subst (In x) G.laid.filled m) in
     let e = map_in _ _ p.1 in
-    ground_sized G.says _ e.0.ground (G.fit e.0 e.1) x (subst (In x) e.2 p.2)
+    ground_sized G.says _ e.0.act (G.fit e.0 e.1) x (subst (In x) e.2 p.2)
 
 -- ---- the events' one behind the other
 

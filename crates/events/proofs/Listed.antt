@@ -14,11 +14,11 @@ use Rattle.events.proofs.FactRows.{few_objects, no_ground, no_event, open_row_at
 
 module _ {D : Domain} {head : List ℕ} (H : HeadOf D head) (i : ℕ) where
   module _ (es : List Event) (F : EventsFit D es) (b : i < length es) where
-    pub event_fits : GroundFits D (get_or es i no_event).ground
+    pub event_fits : GroundFits D (get_or es i no_event).act
     event_fits = F (get_or es i no_event) (get_d_in es i no_event b)
 
-    pub event_row_lem : (w : Waiting) → w ≡ waiting_of es → take 17 (drop (17 * i) w.rows) ≡ ground_row (get_or es i no_event).ground
-    event_row_lem w p = waiting_row_at es (λ e m. few_objects H.bounded e.ground (F e m)) w p i b
+    pub event_row_lem : (w : Waiting) → w ≡ waiting_of es → take 17 (drop (17 * i) w.rows) ≡ ground_row (get_or es i no_event).act
+    event_row_lem w p = waiting_row_at es (λ e m. few_objects H.bounded e.act (F e m)) w p i b
 
   module _ (gs : List GroundAction) (F : GroundsFit D gs) (b : i < length gs) where
     pub entry_fits : GroundFits D (get_or gs i no_ground)

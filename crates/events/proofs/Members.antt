@@ -24,8 +24,8 @@ close_in g (k ∷ ks) {h} m = go (λ n. close_in g ks n) (same_ground g k) m
 
 pub closed_in : (es : List Event) (gs : List GroundAction) {h : GroundAction} → In h (close_all es gs) → In h gs
 closed_in [] gs m = m
-closed_in (e ∷ es) gs {h} m = go e.moment (closed_in es (close_at e.moment e.ground gs) m)
+closed_in (e ∷ es) gs {h} m = go e.moment (closed_in es (close_at e.moment e.act gs) m)
   where
-    go : (m : Moment) → In h (close_at m e.ground gs) → In h gs
+    go : (m : Moment) → In h (close_at m e.act gs) → In h gs
     go Start n = n
-    go Ending n = close_in e.ground gs n
+    go Ending n = close_in e.act gs n

@@ -31,7 +31,7 @@ use Rattle.events.proofs.Members.{close_in, closed_in}
 -- ---- the events that wait
 
 abbrev event_row : Event → EventRow
-event_row e = record { moment = moment_number e.moment; row = ground_row e.ground }
+event_row e = record { moment = moment_number e.moment; row = ground_row e.act }
 
 events_flat : (f : Event → List ℕ) (es : List Event) (left rest : List ℕ) → ((e : Event) → In e es → length (f e) ≡ 17)
     → events_in (length es) (map (λ (e : Event). moment_number e.moment) es ++ left) (flat_map f es ++ rest)
@@ -78,19 +78,19 @@ module _ {D : Domain} (B : Bounded D) where
   events_are : (es : List Event) → EventsFit D es → events_in (waiting_of es).count (waiting_of es).moments (waiting_of es).rows ≡ map event_row es
   unfolding waiting_of
   events_are es k =
-      events_flat (λ (e : Event). ground_row e.ground) es (replicate (16 - length (map (λ (e : Event). moment_number e.moment) es)) 0)
-      (replicate (272 - length (flat_map (λ (e : Event). ground_row e.ground) es)) 0)
-      (λ e m. length_ground e.ground (k e m))
+      events_flat (λ (e : Event). ground_row e.act) es (replicate (16 - length (map (λ (e : Event). moment_number e.moment) es)) 0)
+      (replicate (272 - length (flat_map (λ (e : Event). ground_row e.act) es)) 0)
+      (λ e m. length_ground e.act (k e m))
 
   -- ---- "every end is open"
 
-  end_is : (gs : List GroundAction) → GroundsFit D gs → (e : Event) → GroundFits D e.ground → end_open (map ground_row gs) (event_row e) ≡ is_open gs e
+  end_is : (gs : List GroundAction) → GroundsFit D gs → (e : Event) → GroundFits D e.act → end_open (map ground_row gs) (event_row e) ≡ is_open gs e
   unfolding end_open
   end_is gs k e f = go e.moment
     where
-      go : (m : Moment) → cond (eqb (moment_number m) 1) (has_row (ground_row e.ground) (map ground_row gs)) true ≡ is_open_at m gs e.ground
+      go : (m : Moment) → cond (eqb (moment_number m) 1) (has_row (ground_row e.act) (map ground_row gs)) true ≡ is_open_at m gs e.act
       go Start = refl
-      go End = has_row_lem e.ground f gs k
+      go End = has_row_lem e.act f gs k
 
   ends_are : (gs : List GroundAction) → GroundsFit D gs → (es : List Event) → EventsFit D es → all (end_open (map ground_row gs)) (map event_row es) ≡ all (is_open gs) es
   ends_are gs k [] h = refl
@@ -196,14 +196,14 @@ module _ {D : Domain} (B : Bounded D) where
           ∙ entry_out (take p gs) (get_or gs p g) (drop (suc p) gs) (subst (GroundsFit D) s k) (omega arith)
 
   -- "ends leave the list (one entry each)"
-  close_event_is : (e : Event) → GroundFits D e.ground → (gs : List GroundAction) → GroundsFit D gs → length gs ≤ 32
-      → close_event (event_row e) (open_of gs) ≡ open_of (close_at e.moment e.ground gs)
+  close_event_is : (e : Event) → GroundFits D e.act → (gs : List GroundAction) → GroundsFit D gs → length gs ≤ 32
+      → close_event (event_row e) (open_of gs) ≡ open_of (close_at e.moment e.act gs)
   unfolding close_event
   close_event_is e f gs k few = go e.moment
     where
-      go : (m : Moment) → cond (eqb (moment_number m) 1) (close_entry (ground_row e.ground) (open_of gs)) (open_of gs) ≡ open_of (close_at m e.ground gs)
+      go : (m : Moment) → cond (eqb (moment_number m) 1) (close_entry (ground_row e.act) (open_of gs)) (open_of gs) ≡ open_of (close_at m e.act gs)
       go Start = refl
-      go End = close_is e.ground f gs k few
+      go End = close_is e.act f gs k few
 
 close_few : (g : GroundAction) (gs : List GroundAction) → length (close_one g gs) ≤ length gs
 close_few g [] = omega arith
@@ -223,15 +223,15 @@ close_at_in End g gs i = close_in g gs i
 
 closed_few : (es : List Event) (gs : List GroundAction) → length (close_all es gs) ≤ length gs
 closed_few [] gs = omega arith
-closed_few (e ∷ es) gs = let a = closed_few es (close_at e.moment e.ground gs) in let b = close_at_few e.moment e.ground gs in omega arith
+closed_few (e ∷ es) gs = let a = closed_few es (close_at e.moment e.act gs) in let b = close_at_few e.moment e.act gs in omega arith
 
 closes_are : {D : Domain} → Bounded D → (es : List Event) → EventsFit D es → (gs : List GroundAction) → GroundsFit D gs → length gs ≤ 32
     → close_events (map event_row es) (open_of gs) ≡ open_of (close_all es gs)
 closes_are B [] h gs k few = refl
 closes_are B (e ∷ es) h gs k few =
-    let l = close_at_few e.moment e.ground gs in
+    let l = close_at_few e.moment e.act gs in
     ap (close_events (map event_row es)) (close_event_is B e (h e (Memᴰ.head refl)) gs k few)
-    ∙ closes_are B es (λ x m. h x (Memᴰ.tail m)) (close_at e.moment e.ground gs) (λ g m. k g (close_at_in e.moment e.ground gs m)) (omega arith)
+    ∙ closes_are B es (λ x m. h x (Memᴰ.tail m)) (close_at e.moment e.act gs) (λ g m. k g (close_at_in e.moment e.act gs m)) (omega arith)
 
 -- ---- an entry more
 
@@ -255,63 +255,63 @@ Tells r gs = (r.fits ≡ leb (length gs) 32) × (r.fits ≡ true → r.running �
 -- ---- "starts join it": those of lasting actions
 
 module _ {D : Domain} {head : List ℕ} (h : HeadOf D head) where
-  opens_is : (e : Event) → GroundFits D e.ground
-      → opens_by head (moment_number e.moment) e.ground.action ≡ opens e.moment (action D e.ground.action)
+  opens_is : (e : Event) → GroundFits D e.act
+      → opens_by head (moment_number e.moment) e.act.action ≡ opens e.moment (action D e.act.action)
   unfolding opens_by
   opens_is e f = go e.moment
     where
       go : (m : Moment)
-          → not (eqb (moment_number m) 1) && ltb e.ground.action (actions_in head) && lasting_in head e.ground.action
-          ≡ opens m (action D e.ground.action)
+          → not (eqb (moment_number m) 1) && ltb e.act.action (actions_in head) && lasting_in head e.act.action
+          ≡ opens m (action D e.act.action)
       go Start =
           let l = f.listed in
           let n = h.actions in
-          rw (lt-ltb e.ground.action (actions_in head) (omega arith)) (h.lasting e.ground.action l)
+          rw (lt-ltb e.act.action (actions_in head) (omega arith)) (h.lasting e.act.action l)
       go End = refl
 
-  join_event_is : (e : Event) → GroundFits D e.ground → (gs : List GroundAction) → join_event head (event_row e) (open_of gs)
-      ≡ cond (opens e.moment (action D e.ground.action))
-      (cond (ltb (length gs) 32) (record { fits = true; running = join_entry (ground_row e.ground) (open_of gs) }) (record { fits = false; running = open_of gs }))
+  join_event_is : (e : Event) → GroundFits D e.act → (gs : List GroundAction) → join_event head (event_row e) (open_of gs)
+      ≡ cond (opens e.moment (action D e.act.action))
+      (cond (ltb (length gs) 32) (record { fits = true; running = join_entry (ground_row e.act) (open_of gs) }) (record { fits = false; running = open_of gs }))
       (record { fits = true; running = open_of gs })
   unfolding join_event open_of
   join_event_is e f gs =
       ap {B = OpenAfter} (λ b. cond b
-      (cond (ltb (length gs) 32) (record { fits = true; running = join_entry (ground_row e.ground) (open_of gs) }) (record { fits = false; running = open_of gs }))
+      (cond (ltb (length gs) 32) (record { fits = true; running = join_entry (ground_row e.act) (open_of gs) }) (record { fits = false; running = open_of gs }))
       (record { fits = true; running = open_of gs })) (opens_is e f)
 
   joins_are : (es : List Event) → EventsFit D es → (gs : List GroundAction) → GroundsFit D gs → length gs ≤ 32
       → Tells (join_events head (map event_row es) (open_of gs)) (gs ++ opened_by D es)
   joins_are [] k gs l few = rw (append-nil gs) (sym (le-leb (length gs) 32 few), λ z. refl)
-  joins_are (e ∷ es) k gs l few = rw (join_event_is e f gs) (go (opens e.moment (action D e.ground.action)) (ltb (length gs) 32) refl (joins_are es (λ x m. k x (Memᴰ.tail m))))
+  joins_are (e ∷ es) k gs l few = rw (join_event_is e f gs) (go (opens e.moment (action D e.act.action)) (ltb (length gs) 32) refl (joins_are es (λ x m. k x (Memᴰ.tail m))))
     where
-      f : GroundFits D e.ground
+      f : GroundFits D e.act
       f = k e (Memᴰ.head refl)
 
       -- of the first event, and then of the others
       first : Bool → Bool → OpenAfter
       first a b =
-          cond a (cond b (record { fits = true; running = join_entry (ground_row e.ground) (open_of gs) }) (record { fits = false; running = open_of gs })) (record { fits = true; running = open_of gs })
+          cond a (cond b (record { fits = true; running = join_entry (ground_row e.act) (open_of gs) }) (record { fits = false; running = open_of gs })) (record { fits = true; running = open_of gs })
 
       others : OpenAfter → OpenAfter
       others r = cond r.fits (join_events head (map event_row es) r.running) r
 
       more : List GroundAction
-      more = gs ++ (e.ground ∷ [])
+      more = gs ++ (e.act ∷ [])
 
       go : (a b : Bool) → ltb (length gs) 32 ≡ b
           → ((hs : List GroundAction) → GroundsFit D hs → length hs ≤ 32 → Tells (join_events head (map event_row es) (open_of hs)) (hs ++ opened_by D es))
-          → Tells (others (first a b)) (gs ++ keep_if a e.ground (opened_by D es))
+          → Tells (others (first a b)) (gs ++ keep_if a e.act (opened_by D es))
       go false b q ih = ih gs l few
       go true true q ih =
           let n = ltb-true (length gs) 32 q in
-          let m = length-append gs (e.ground ∷ []) in
-          subst (λ (o : Open). Tells (join_events head (map event_row es) o) (gs ++ (e.ground ∷ opened_by D es))) (sym (entry_in h.bounded gs l e.ground f))
-          (subst (Tells (join_events head (map event_row es) (open_of more))) (append_assoc gs (e.ground ∷ []) (opened_by D es))
-          (ih more (in_snoc {P = GroundFits D} gs e.ground l f) (omega arith)))
+          let m = length-append gs (e.act ∷ []) in
+          subst (λ (o : Open). Tells (join_events head (map event_row es) o) (gs ++ (e.act ∷ opened_by D es))) (sym (entry_in h.bounded gs l e.act f))
+          (subst (Tells (join_events head (map event_row es) (open_of more))) (append_assoc gs (e.act ∷ []) (opened_by D es))
+          (ih more (in_snoc {P = GroundFits D} gs e.act l f) (omega arith)))
       go true false q ih =
           let n = ltb-false (length gs) 32 q in
-          let m = length-append gs (e.ground ∷ opened_by D es) in
-          (sym (lt-leb (length (gs ++ (e.ground ∷ opened_by D es))) 32 (omega arith)), λ z. absurd (true≢false (sym z)))
+          let m = length-append gs (e.act ∷ opened_by D es) in
+          (sym (lt-leb (length (gs ++ (e.act ∷ opened_by D es))) 32 (omega arith)), λ z. absurd (true≢false (sym z)))
 
 -- ---- as the code holds them
 

@@ -64,7 +64,7 @@ waiting_of es =
     record {
       count = length es;
       moments = pad max_events (map (λ (e : Event). moment_number e.moment) es);
-      rows = pad waiting_bytes (flat_map (λ (e : Event). ground_row e.ground) es);
+      rows = pad waiting_bytes (flat_map (λ (e : Event). ground_row e.act) es);
     }
 
 -- ---- the agenda: what is open and what waits, in one memory
@@ -108,7 +108,7 @@ abbrev pub GroundsFit : Domain → List GroundAction → Type 0
 GroundsFit D gs = (g : GroundAction) → In g gs → GroundFits D g
 
 abbrev pub EventsFit : Domain → List Event → Type 0
-EventsFit D es = (e : Event) → In e es → GroundFits D e.ground
+EventsFit D es = (e : Event) → In e es → GroundFits D e.act
 
 -- "whose facts and bindings use no objects but those chosen": none of these is FF
 pub record OverObjects (D : Domain) (objs : List Object) (fs : List Fact) (gs : List GroundAction) : Type 0 where
@@ -120,16 +120,16 @@ pub record OverObjects (D : Domain) (objs : List Object) (fs : List Fact) (gs : 
 
 -- an argument: the object of a variable, which an action's row has behind the action; FF, every object, stays
 abbrev pub bound_argument : List ℕ → ℕ → ℕ
-bound_argument ground v = cond (ltb v max_variables) (get_or ground (v + 1) 0) 255
+bound_argument act v = cond (ltb v max_variables) (get_or act (v + 1) 0) 255
 
 -- the row of a literal, so bound, by the arity of its relation
 abbrev pub bound_bytes : ℕ → List ℕ → List ℕ → List ℕ
-bound_bytes n ground row = byte row 1 ∷ n ∷ (map (bound_argument ground) (take n (drop 2 row)) ++ replicate (max_arguments - n) 255)
+bound_bytes n act row = byte row 1 ∷ n ∷ (map (bound_argument act) (take n (drop 2 row)) ++ replicate (max_arguments - n) 255)
 
 -- the same, with the arity that the head has
 unfoldable pub bound_row : List ℕ → List ℕ → List ℕ → List ℕ
 unfolding arity_in
-bound_row head ground row = bound_bytes (arity_in head (byte row 1)) ground row
+bound_row head act row = bound_bytes (arity_in head (byte row 1)) act row
 
 -- a pattern: FF stands among the arguments of the row
 unfoldable pub is_pattern : List ℕ → Bool
@@ -231,13 +231,13 @@ ground_literals D t g =
 
 -- those of an event
 abbrev pub event_literals : Domain → Event → List GroundLiteral
-event_literals D e = ground_literals D (time_of e.moment) e.ground
+event_literals D e = ground_literals D (time_of e.moment) e.act
 
 -- the same by the rows of an action's literals
 unfoldable pub row_literals : Time → List ℕ → List ℕ → List (List ℕ) → List GroundLiteral
 unfolding usage_for bound_row
-row_literals t head ground rows =
-    map (λ row. record { usage = usage_for t (byte row 0); row = bound_row head ground row })
+row_literals t head act rows =
+    map (λ row. record { usage = usage_for t (byte row 0); row = bound_row head act row })
     (filter_by (λ row. not (eqb (usage_for t (byte row 0)) 0)) rows)
 
 -- ---- ground literals in memory

@@ -15,25 +15,25 @@ use literals::{Argument, Object, Time, Variable, argument_of};
 use records::bytes::wide;
 
 // The object that an action's row has for a variable. (What is answered for a number that is no variable's is never asked for.)
-fn object_of(ground: &[u8], v: Variable) -> Object
-    requires { length ground.now ≡ ground_bytes }
-    ensures { result.0 ≡ bound_argument ground.now v.0 }
+fn object_of(act: &[u8], v: Variable) -> Object
+    requires { length act.now ≡ ground_bytes }
+    ensures { result.0 ≡ bound_argument act.now v.0 }
 {
     if v.0 < MAX_VARIABLES as u8 {
-        let o = ground[v.0 as usize + 1];
+        let o = act[v.0 as usize + 1];
         return Object(o);
     }
     Object(255)
 }
 
 // The byte of an argument, bound: of a variable its object; FF, every object, stays.
-fn bound_argument(ground: &[u8], argument: Argument) -> u8
-    requires { length ground.now ≡ ground_bytes }
-    ensures { result ≡ bound_argument ground.now (argument_number argument) }
+fn bound_argument(act: &[u8], argument: Argument) -> u8
+    requires { length act.now ≡ ground_bytes }
+    ensures { result ≡ bound_argument act.now (argument_number argument) }
 {
     match argument {
         Argument::Variable(v) => {
-            let o = object_of(ground, v);
+            let o = object_of(act, v);
             o.0
         }
         Argument::Every => 255,
@@ -41,12 +41,12 @@ fn bound_argument(ground: &[u8], argument: Argument) -> u8
 }
 
 // A byte of the literal's row at an offset, bound; `arity` is its relation's.
-fn bound_byte(arity: u8, ground: &[u8], rows: &[u8], row: usize, i: usize) -> u8
-    requires bound { length ground.now ≡ ground_bytes }
+fn bound_byte(arity: u8, act: &[u8], rows: &[u8], row: usize, i: usize) -> u8
+    requires bound { length act.now ≡ ground_bytes }
     requires literal { row + 8 ≤ length rows.now }
     requires place { i < 8 }
     requires arity { arity ≤ max_arguments }
-    ensures { result ≡ get_or (bound_bytes arity ground.now (take 8 (drop row rows.now))) i 0 }
+    ensures { result ≡ get_or (bound_bytes arity act.now (take 8 (drop row rows.now))) i 0 }
 {
     if i == 0 {
         return rows[row + 1];
@@ -56,21 +56,21 @@ fn bound_byte(arity: u8, ground: &[u8], rows: &[u8], row: usize, i: usize) -> u8
     }
     if i < 2 + arity as usize {
         let argument = argument_of(rows[row + i]);
-        return bound_argument(ground, argument);
+        return bound_argument(act, argument);
     }
     255
 }
 
 // The literal's row at an offset, bound.
-pub fn bound_row(head: &Head, ground: &[u8], rows: &[u8], row: usize) -> [u8; 8]
-    requires bound { length ground.now ≡ ground_bytes }
+pub fn bound_row(head: &Head, act: &[u8], rows: &[u8], row: usize) -> [u8; 8]
+    requires bound { length act.now ≡ ground_bytes }
     requires literal { row + 8 ≤ length rows.now }
-    ensures { result ≡ bound_row head.now ground.now (take 8 (drop row rows.now)) }
+    ensures { result ≡ bound_row head.now act.now (take 8 (drop row rows.now)) }
 {
     let arity = arity_of(head, rows[row + 1]);
     let mut fact = [255u8; 8];
     for i in 0..8 {
-        fact[i] = bound_byte(arity, ground, rows, row, i);
+        fact[i] = bound_byte(arity, act, rows, row, i);
     }
     fact
 }

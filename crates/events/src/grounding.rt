@@ -47,23 +47,23 @@ fn ground_literal(
     n: usize,
     time: Time,
     head: &Head,
-    ground: &[u8],
+    act: &[u8],
     rows: &[u8],
     row: usize,
 ) -> usize
     requires memory { length memory.old ≡ grounded_bytes }
     requires room { n < max_ground }
-    requires bound { length ground.now ≡ ground_bytes }
+    requires bound { length act.now ≡ ground_bytes }
     requires literal { row + 8 ≤ length rows.now }
     ensures literals { ground_in result memory.new ≡ ground_in n memory.old
-        ++ row_literals time head.now ground.now (take 8 (drop row rows.now) ∷ []) }
+        ++ row_literals time head.now act.now (take 8 (drop row rows.now) ∷ []) }
     ensures counts { drop counts_at memory.new ≡ drop counts_at memory.old }
 {
     let usage = usage_for(time, rows[row]);
     if usage == 0 {
         return n;
     }
-    put_literal(memory, n, usage, bound_row(head, ground, rows, row));
+    put_literal(memory, n, usage, bound_row(head, act, rows, row));
     n + 1
 }
 
@@ -73,21 +73,21 @@ fn ground_literals(
     at: usize,
     time: Time,
     head: &Head,
-    ground: &[u8],
+    act: &[u8],
     rows: &[u8],
     k: usize,
 ) -> usize
     requires memory { length memory.old ≡ grounded_bytes }
     requires room { at + k ≤ max_ground }
-    requires bound { length ground.now ≡ ground_bytes }
+    requires bound { length act.now ≡ ground_bytes }
     requires literals { 8 * k ≤ length rows.now }
     ensures literals { ground_in result memory.new ≡ ground_in at memory.old
-        ++ row_literals time head.now ground.now (rows_in k rows.now) }
+        ++ row_literals time head.now act.now (rows_in k rows.now) }
     ensures counts { drop counts_at memory.new ≡ drop counts_at memory.old }
 {
     let mut n = at;
     for i in 0..k {
-        n = ground_literal(memory, n, time, head, ground, rows, 8 * i);
+        n = ground_literal(memory, n, time, head, act, rows, 8 * i);
     }
     n
 }
@@ -97,20 +97,20 @@ pub fn ground_action(
     head: &Head,
     table: &[u8],
     time: Time,
-    ground: &[u8],
+    act: &[u8],
     memory: &mut [u8],
     n: usize,
 ) -> usize
-    requires bound { length ground.now ≡ ground_bytes }
+    requires bound { length act.now ≡ ground_bytes }
     requires memory { length memory.old ≡ grounded_bytes }
     requires room { n + max_literals ≤ max_ground }
     ensures few { (n ≤ result) × (result ≤ n + max_literals) }
     ensures literals { (D : Domain) (g : GroundAction)
-        → Held D head.now table.now → GroundFits D g → ground.now ≡ ground_row g
+        → Held D head.now table.now → GroundFits D g → act.now ≡ ground_row g
         → ground_in result memory.new ≡ ground_in n memory.old ++ ground_literals D time g }
     ensures counts { drop counts_at memory.new ≡ drop counts_at memory.old }
 {
-    let action = wide(ground[0]);
+    let action = wide(act[0]);
     if actions_in(head) <= action {
         return n;
     }
@@ -122,7 +122,7 @@ pub fn ground_action(
         n,
         time,
         head,
-        ground,
+        act,
         &table[from..to],
         span.to - span.from,
     )
@@ -145,9 +145,9 @@ fn ground_event(
     requires room { n + max_literals ≤ max_ground }
     ensures few { (n ≤ result) × (result ≤ n + max_literals) }
     ensures literals { (D : Domain) (e : Event)
-        → Held D head.now table.now → GroundFits D e.ground
+        → Held D head.now table.now → GroundFits D e.act
         → get_or moments.now i 0 ≡ moment_number e.moment
-        → take ground_bytes (drop (ground_bytes * i) events.now) ≡ ground_row e.ground
+        → take ground_bytes (drop (ground_bytes * i) events.now) ≡ ground_row e.act
         → ground_in result memory.new ≡ ground_in n memory.old ++ event_literals D e }
     ensures counts { drop counts_at memory.new ≡ drop counts_at memory.old }
 {

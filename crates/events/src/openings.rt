@@ -30,14 +30,14 @@ const LAST_ROW: usize = OPEN_ROWS - GROUND;
 const WAITING: usize = AGENDA - MOMENTS_AT;
 
 // Whether the entry at an offset is this one.
-pub fn same_ground(memory: &[u8], at: usize, ground: &[u8]) -> bool
+pub fn same_ground(memory: &[u8], at: usize, act: &[u8]) -> bool
     requires entry { at + ground_bytes ≤ length memory.now }
-    requires row { length ground.now ≡ ground_bytes }
-    ensures { result ≡ same_list eqb ground.now (take ground_bytes (drop at memory.now)) }
+    requires row { length act.now ≡ ground_bytes }
+    ensures { result ≡ same_list eqb act.now (take ground_bytes (drop at memory.now)) }
 {
     let mut i = 0;
     while i < GROUND {
-        if ground[i] != memory[at + i] {
+        if act[i] != memory[at + i] {
             return false;
         }
         i += 1;
@@ -46,14 +46,14 @@ pub fn same_ground(memory: &[u8], at: usize, ground: &[u8]) -> bool
 }
 
 // The number of the first of n entries that is this one, or n.
-fn entry_of(rows: &[u8], n: usize, ground: &[u8]) -> usize
+fn entry_of(rows: &[u8], n: usize, act: &[u8]) -> usize
     requires entries { ground_bytes * n ≤ length rows.now }
-    requires row { length ground.now ≡ ground_bytes }
-    ensures { result ≡ position (same_list eqb ground.now) (grounds_in n rows.now) }
+    requires row { length act.now ≡ ground_bytes }
+    ensures { result ≡ position (same_list eqb act.now) (grounds_in n rows.now) }
 {
     let mut k = 0;
     while k < n {
-        if same_ground(rows, GROUND * k, ground) {
+        if same_ground(rows, GROUND * k, act) {
             return k;
         }
         k += 1;
@@ -62,12 +62,12 @@ fn entry_of(rows: &[u8], n: usize, ground: &[u8]) -> usize
 }
 
 // Whether one of n entries is this one.
-fn is_open(rows: &[u8], n: usize, ground: &[u8]) -> bool
+fn is_open(rows: &[u8], n: usize, act: &[u8]) -> bool
     requires entries { ground_bytes * n ≤ length rows.now }
-    requires row { length ground.now ≡ ground_bytes }
-    ensures { result ≡ has_row ground.now (grounds_in n rows.now) }
+    requires row { length act.now ≡ ground_bytes }
+    ensures { result ≡ has_row act.now (grounds_in n rows.now) }
 {
-    entry_of(rows, n, ground) < n
+    entry_of(rows, n, act) < n
 }
 
 // Whether the waiting event i, where it is an end, is open.
@@ -154,14 +154,14 @@ fn without(rows: &mut [u8], k: usize)
 }
 
 // Takes the first of n entries that is this one out; the count afterwards.
-fn close(rows: &mut [u8], n: usize, ground: &[u8]) -> usize
+fn close(rows: &mut [u8], n: usize, act: &[u8]) -> usize
     requires entries { length rows.old ≡ open_bytes }
     requires few { n ≤ max_running }
-    requires entry { length ground.now ≡ ground_bytes }
+    requires entry { length act.now ≡ ground_bytes }
     ensures { record { count = result; rows = rows.new }
-        ≡ close_entry ground.now (record { count = n; rows = rows.old }) }
+        ≡ close_entry act.now (record { count = n; rows = rows.old }) }
 {
-    let k = entry_of(rows, n, ground);
+    let k = entry_of(rows, n, act);
     if k == n {
         return n;
     }
@@ -203,14 +203,14 @@ fn close_all(rows: &mut [u8], n: usize, moments: &[u8], events: &[u8], count: us
 }
 
 // Puts an entry behind the first n.
-fn join(rows: &mut [u8], n: usize, ground: &[u8])
+fn join(rows: &mut [u8], n: usize, act: &[u8])
     requires entries { length rows.old ≡ open_bytes }
     requires few { n < max_running }
-    requires entry { length ground.now ≡ ground_bytes }
+    requires entry { length act.now ≡ ground_bytes }
     ensures { record { count = n + 1; rows = rows.new }
-        ≡ join_entry ground.now (record { count = n; rows = rows.old }) }
+        ≡ join_entry act.now (record { count = n; rows = rows.old }) }
 {
-    put_bytes(rows, GROUND * n, ground);
+    put_bytes(rows, GROUND * n, act);
 }
 
 // Puts the entry of the event i behind the first n, where it is the start of a lasting action.

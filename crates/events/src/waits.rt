@@ -11,14 +11,14 @@ use super::{AGENDA, EVENTS_AT, GROUND, MOMENTS_AT};
 use records::bytes::put_bytes;
 
 // One event more, behind the first n that wait.
-pub fn wait(agenda: &mut [u8], n: usize, moment: u8, ground: [u8; GROUND])
+pub fn wait(agenda: &mut [u8], n: usize, moment: u8, act: [u8; GROUND])
     requires few { n < max_events }
     requires agenda { length agenda.old ≡ agenda_bytes }
     ensures entries { entries_in agenda.new ≡ entries_in agenda.old }
     ensures waits { (D : Domain) (es : List Event) (e : Event) → Bounded D → EventsFit D es
-        → agenda_waiting n agenda.old ≡ waiting_of es → moment ≡ moment_number e.moment → ground ≡ ground_row e.ground
+        → agenda_waiting n agenda.old ≡ waiting_of es → moment ≡ moment_number e.moment → act ≡ ground_row e.act
         → agenda_waiting (n + 1) agenda.new ≡ waiting_of (es ++ (e ∷ [])) }
 {
     agenda[MOMENTS_AT + n] = moment;
-    put_bytes(&mut agenda[EVENTS_AT..AGENDA], GROUND * n, &ground);
+    put_bytes(&mut agenda[EVENTS_AT..AGENDA], GROUND * n, &act);
 }

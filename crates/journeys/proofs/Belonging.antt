@@ -263,11 +263,11 @@ module _ {D : Domain} {head rows : List ℕ} (g : GroundAction) (A : ActionOf D 
       one (Memᴰ.head e) = rw e fact_fits
       one (Memᴰ.tail m) = absurd (Memᴰ.not-nil m)
 
-  pub belongs_is : (ground row bound : List ℕ) (w : ℕ) → ground ≡ ground_row g → row ≡ row_of (object_numbers y)
-      → bound ≡ bound_row head ground (take 8 (drop (8 * at) rows))
+  pub belongs_is : (act row bound : List ℕ) (w : ℕ) → act ≡ ground_row g → row ≡ row_of (object_numbers y)
+      → bound ≡ bound_row head act (take 8 (drop (8 * at) rows))
       → w ≡ add_if (any (same_list eqb row) (instance_rows (keys_in head) (component_rows_in head) (take 8 (drop 0 bound)))) 0
       → w ≡ add_if (journey D a tuple && same_list same_object (bind_tuple g.binding tuple) y) 0
-  belongs_is ground row bound w ge re be we =
+  belongs_is act row bound w ge re be we =
       let f : bound ≡ fact_row fact = be ∙ ap (λ (t : List ℕ). bound_row head t (take 8 (drop (8 * at) rows))) ge ∙ row_is in
       let l = fact_length in
       let t : take 8 (drop 0 bound) ≡ fact_row fact = ap (take 8) f ∙ take_all 8 (fact_row fact) (omega arith) in

@@ -75,12 +75,12 @@ fn mark_journeys(rows: &[u8], numbers: &[u8], count: usize, marks: &mut Marks)
 // 1 where a class with this mark is a journey that belongs to the instance with this key tuple, of an open entry whose action has these
 // rows: the key tuple of a class, bound, is that of each of its literals' facts. Else 0. (A mark is within the rows; the test gives
 // the checker the bound.)
-fn belongs_by(head: &Head, rows: &[u8], mark: u8, ground: &[u8], row: [u8; 8]) -> usize
-    requires { length ground.now ≡ ground_bytes }
+fn belongs_by(head: &Head, rows: &[u8], mark: u8, act: &[u8], row: [u8; 8]) -> usize
+    requires { length act.now ≡ ground_bytes }
     ensures few { result ≤ 1 }
     ensures counts { (D : Domain) (g : GroundAction) (y : List Object) (class : ℕ)
         → ActionOf D (action D g.action) head.now rows.now → GroundFits D g
-        → ground.now ≡ ground_row g → length y ≡ keys_of D.template → row ≡ row_of (object_numbers y)
+        → act.now ≡ ground_row g → length y ≡ keys_of D.template → row ≡ row_of (object_numbers y)
         → class < length (classes D (action D g.action)) → mark ≡ journey_mark D (action D g.action) class
         → let x = get_or (classes D (action D g.action)) class [] in
         result ≡ add_if (journey D (action D g.action) x && same_list same_object (bind_tuple g.binding x) y) 0 }
@@ -92,7 +92,7 @@ fn belongs_by(head: &Head, rows: &[u8], mark: u8, ground: &[u8], row: [u8; 8]) -
     if rows.len() < 8 * k {
         return 0;
     }
-    let fact = bound_row(head, ground, rows, 8 * (k - 1));
+    let fact = bound_row(head, act, rows, 8 * (k - 1));
     weight_at(head, &fact, 0, row)
 }
 
@@ -102,35 +102,35 @@ fn count_marked(
     rows: &[u8],
     marks: &Marks,
     count: usize,
-    ground: &[u8],
+    act: &[u8],
     row: [u8; 8],
 ) -> usize
     requires few { count ≤ max_literals }
-    requires ground { length ground.now ≡ ground_bytes }
+    requires act { length act.now ≡ ground_bytes }
     ensures few { result ≤ count }
     ensures counts { (D : Domain) (g : GroundAction) (y : List Object)
         → ActionOf D (action D g.action) head.now rows.now → GroundFits D g
-        → ground.now ≡ ground_row g → length y ≡ keys_of D.template → row ≡ row_of (object_numbers y)
+        → act.now ≡ ground_row g → length y ≡ keys_of D.template → row ≡ row_of (object_numbers y)
         → count ≡ length (classes D (action D g.action))
         → ((class : ℕ) → class < count → get_or marks.now class 0 ≡ journey_mark D (action D g.action) class)
         → result ≡ journeys_for D y g }
 {
     let mut found: usize = 0;
     for class in 0..count {
-        found += belongs_by(head, rows, marks[class], ground, row);
+        found += belongs_by(head, rows, marks[class], act, row);
     }
     found
 }
 
 // How many journeys of an open entry belong to the instance; its lasting action has these n literals.
-fn journeys_of(head: &Head, rows: &[u8], n: usize, ground: &[u8], row: [u8; 8]) -> usize
+fn journeys_of(head: &Head, rows: &[u8], n: usize, act: &[u8], row: [u8; 8]) -> usize
     requires rowed { length rows.now ≡ 8 * n }
     requires literals { n ≤ max_literals }
-    requires ground { length ground.now ≡ ground_bytes }
+    requires act { length act.now ≡ ground_bytes }
     ensures few { result ≤ max_literals }
     ensures counts { (D : Domain) (g : GroundAction) (y : List Object)
         → ActionOf D (action D g.action) head.now rows.now → (action D g.action).lasting ≡ true
-        → GroundFits D g → ground.now ≡ ground_row g → length y ≡ keys_of D.template → row ≡ row_of (object_numbers y)
+        → GroundFits D g → act.now ≡ ground_row g → length y ≡ keys_of D.template → row ≡ row_of (object_numbers y)
         → result ≡ journeys_for D y g }
 {
     let mut places = [0u8; KEY_PLACES];
@@ -140,19 +140,19 @@ fn journeys_of(head: &Head, rows: &[u8], n: usize, ground: &[u8], row: [u8; 8]) 
     let count = number_classes(head, &places, rows, &mut numbers[0..n], &mut words);
     let mut marks = [0u8; MAX_LITERALS];
     mark_journeys(rows, &numbers[0..n], count, &mut marks);
-    count_marked(head, rows, &marks, count, ground, row)
+    count_marked(head, rows, &marks, count, act, row)
 }
 
 // The same of any entry: one of an action at once has none.
-fn entry_journeys(head: &Head, table: &[u8], ground: &[u8], row: [u8; 8]) -> usize
-    requires { length ground.now ≡ ground_bytes }
+fn entry_journeys(head: &Head, table: &[u8], act: &[u8], row: [u8; 8]) -> usize
+    requires { length act.now ≡ ground_bytes }
     ensures few { result ≤ max_literals }
     ensures counts { (D : Domain) (g : GroundAction) (y : List Object)
         → Held D head.now table.now → well_formed D ≡ true → GroundFits D g
-        → ground.now ≡ ground_row g → length y ≡ keys_of D.template → row ≡ row_of (object_numbers y)
+        → act.now ≡ ground_row g → length y ≡ keys_of D.template → row ≡ row_of (object_numbers y)
         → result ≡ journeys_for D y g }
 {
-    let action = wide(ground[0]);
+    let action = wide(act[0]);
     if actions_in(head) <= action {
         return 0;
     }
@@ -162,7 +162,7 @@ fn entry_journeys(head: &Head, table: &[u8], ground: &[u8], row: [u8; 8]) -> usi
     let span = rows_of(head, table, action);
     let from = 8 * span.from;
     let to = 8 * span.to;
-    journeys_of(head, &table[from..to], span.to - span.from, ground, row)
+    journeys_of(head, &table[from..to], span.to - span.from, act, row)
 }
 
 // How many journeys of the first n open entries belong to the instance.

@@ -13,7 +13,7 @@ use borrow.Author.Tests.{eq-eqb, ne_eqb, eqb-true, eqb-false, lt-ltb, le-ltb}
 use Rattle.records.specs.Lists.{same_list, position, numbers_from}
 use Rattle.literals.specs.Domain.{key, is_key}
 use Rattle.literals.specs.Decode.{byte, label_of}
-use Rattle.literals.specs.Held.{EightAt, WordOf, row_of, rows_by, place_under, argument_at, under_key, under_keys, key_row, key_rows, word_from, key_word}
+use Rattle.literals.specs.Held.{EightAt, WordOf, rows_by, place_under, argument_at, under_key, under_keys, key_row, key_rows, word_from, key_word}
 use Rattle.literals.proofs.Rows.{length_row, row_inside, eight_by_four, row_none, row_more, row_all, same_miss, same_hit, same_end, length_part, part_at, rows_more, rows_end}
 use Rattle.literals.proofs.Bytes.{label_key}
 

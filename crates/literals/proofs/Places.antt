@@ -17,7 +17,7 @@ use Rattle.literals.specs.declared.Key.{Key}
 use Rattle.literals.specs.Domain.{key, is_key}
 use Rattle.literals.specs.Decode.{label_of}
 use Rattle.literals.specs.Held.{pad, within, component_row_in, component_rows_from, component_rows_in, keys_in, components_in, starts, marked}
-use Rattle.literals.specs.Held.{place_under, FirstComponents, PlacesIn, PlacesOf}
+use Rattle.literals.specs.Held.{place_under, FirstComponents}
 use Rattle.literals.proofs.Heads.{parts_next, parts_end}
 use Rattle.literals.proofs.KeyRows.{place_le}
 

@@ -14,7 +14,7 @@ use lib.Seq.{drop-cons, get_or-drop, get_or-take, get_or-append-add, drop-drop, 
 use borrow.Author.Tests.{eq-eqb, ne_eqb, eqb-true}
 use Rattle.records.specs.Lists.{In, any, all, same_list, side_by_side}
 use Rattle.records.proofs.Lists.{and_l, and_r, and_i, or_l, bool_cases, clash, off, eqb_same, same_list_eq, same_list_self, any_same}
-use Rattle.records.proofs.Memory.{paste_more, paste_length}
+use Rattle.records.proofs.Memory.{paste_more}
 use Rattle.literals.specs.Decode.{max_arguments, byte}
 use Rattle.literals.specs.Held.{key_beside, key_cleared_in, row_of, FourAt, EightAt, WordOf, four_bytes, meet_byte, arguments_meet, rows_meet}
 use Rattle.literals.specs.Held.{meets_as, opposed_roles, contradicts_row, rows_by, rows_in}

@@ -13,17 +13,15 @@ use lib.Seq.{take_at, drop_at, paste}
 use borrow.Author.Tests.{eqb-true, ne_eqb}
 use Rattle.records.specs.Lists.{In, any, same_list, side_by_side}
 use Rattle.records.specs.Memory.{over}
-use Rattle.records.proofs.Lists.{and_r, or_out, bool_cases, eqb_same, same_list_self, any_map, any_append, map_back, all_below, below_in}
+use Rattle.records.proofs.Lists.{or_out, bool_cases, eqb_same, same_list_self, any_map, any_append, map_back, all_below, below_in}
 use Rattle.records.proofs.Memory.{over_more, over_paste, drop_replicate, get_d_fill}
 use Rattle.literals.specs.declared.Variable.{Variable}
 use Rattle.literals.specs.declared.Argument.{Argument}
 use Rattle.literals.specs.declared.Argument.TheVariants.{Variable as bound, Every}
 use Rattle.literals.specs.declared.Label.{Label}
-use Rattle.literals.specs.declared.Usage.{Usage}
-use Rattle.literals.specs.declared.Usage.TheVariants.{Positive, Negative, Add, Delete}
 use Rattle.literals.specs.declared.Role.{Role}
-use Rattle.literals.specs.Domain.{is_every, same_argument, meet_argument, same_atom, same_literal, meets, role_of, role_number, same_time}
-use Rattle.literals.specs.Domain.{same_usage, label_number, same_role, Literal, Action, Component, is_counted, keys_bound, keeps_keys}
+use Rattle.literals.specs.Domain.{is_every, same_argument, meet_argument, same_atom, same_literal, meets, role_of, role_number}
+use Rattle.literals.specs.Domain.{label_number, same_role, Literal, Action, Component, is_counted, keys_bound, keeps_keys}
 use Rattle.literals.specs.Domain.{Domain, arity}
 use Rattle.literals.specs.Decode.{max_arguments, byte, argument_of, literal_of, repeats, contrary, together, contradicts, label_of}
 use Rattle.literals.specs.Decode.{component_of, keys_cleared}

@@ -36,17 +36,17 @@ use Rattle.events.proofs.FactRows.{listed_in}
 
 module _ (D : Domain) (B : Bounded D) (objs : List Object) where
   -- a fact that an event adds
-  added_fits : (e : Event) → GroundFits D e.ground → (f : Fact) → In f (event_facts D objs e Add) → FactFits D f
+  added_fits : (e : Event) → GroundFits D e.act → (f : Fact) → In f (event_facts D objs e Add) → FactFits D f
   unfolding event_facts
   added_fits e h f m =
-      let a = action D e.ground.action in
-      let r = flat_map_in (facts_of objs e.ground.binding) (literals_at a e.moment Add) m in
+      let a = action D e.act.action in
+      let r = flat_map_in (facts_of objs e.act.binding) (literals_at a e.moment Add) m in
       let l = literals_at_in a e.moment Add r.1 in
-      let s = facts_in_lem objs e.ground.binding r.0 f r.2 in
-      let k = B.literal_arity a (listed_in D e.ground.action h.listed) l.0 l.1 in
+      let s = facts_in_lem objs e.act.binding r.0 f r.2 in
+      let k = B.literal_arity a (listed_in D e.act.action h.listed) l.0 l.1 in
       record {
         sized =
-            stand_length objs e.ground.binding r.0.args f.args s.1
+            stand_length objs e.act.binding r.0.args f.args s.1
             ∙ ap (λ (p : Atom Argument). length p.args) l.3
             ∙ k
             ∙ ap (λ (p : Atom Argument). arity D p.rel) (sym l.3)
@@ -61,12 +61,12 @@ module _ (D : Domain) (B : Bounded D) (objs : List Object) where
       go (inl s) = h f s.0
       go (inr s) = added_fits s.0 (k s.0 s.1) f s.2
 
-opened_in : (D : Domain) (es : List Event) {h : GroundAction} → In h (opened_by D es) → (e : Event) × In e es × (h ≡ e.ground)
+opened_in : (D : Domain) (es : List Event) {h : GroundAction} → In h (opened_by D es) → (e : Event) × In e es × (h ≡ e.act)
 opened_in D [] m = absurd (Memᴰ.not-nil m)
-opened_in D (e ∷ es) {h} m = go (λ n. opened_in D es n) (in_keep_if (opens e.moment (action D e.ground.action)) e.ground (opened_by D es) m)
+opened_in D (e ∷ es) {h} m = go (λ n. opened_in D es n) (in_keep_if (opens e.moment (action D e.act.action)) e.act (opened_by D es) m)
   where
-    go : (In h (opened_by D es) → (d : Event) × In d es × (h ≡ d.ground))
-        → ((opens e.moment (action D e.ground.action) ≡ true) × (h ≡ e.ground)) ⊎ In h (opened_by D es) → (d : Event) × In d (e ∷ es) × (h ≡ d.ground)
+    go : (In h (opened_by D es) → (d : Event) × In d es × (h ≡ d.act))
+        → ((opens e.moment (action D e.act.action) ≡ true) × (h ≡ e.act)) ⊎ In h (opened_by D es) → (d : Event) × In d (e ∷ es) × (h ≡ d.act)
     go ih (inl s) = (e, Memᴰ.head refl, s.1)
     go ih (inr s) = let r = ih s in (r.0, Memᴰ.tail r.1, r.2)
 
@@ -120,11 +120,11 @@ kept_next D B {objs} s es k t =
 -- ---- what is asked of the events that wait, with the facts and without
 
 module _ {D : Domain} {objs : List Object} {s : State} {es : List Event} (k : Kept D objs s es) where
-  waiting_in_lem : (g : GroundAction) → In g (map (λ (e : Event). e.ground) es) → (o : Object) → In o g.binding → In o objs
-  waiting_in_lem g m = let r = map_in (λ (e : Event). e.ground) es m in rw r.2 (k.waiting_over r.0 r.1)
+  waiting_in_lem : (g : GroundAction) → In g (map (λ (e : Event). e.act) es) → (o : Object) → In o g.binding → In o objs
+  waiting_in_lem g m = let r = map_in (λ (e : Event). e.act) es m in rw r.2 (k.waiting_over r.0 r.1)
 
-  pub events_chosen : OverObjects D objs s.facts (map (λ (e : Event). e.ground) es)
+  pub events_chosen : OverObjects D objs s.facts (map (λ (e : Event). e.act) es)
   events_chosen = record { low = k.chosen.low; facts = k.chosen.facts; bindings = waiting_in_lem }
 
-  pub events_alone : OverObjects D objs [] (map (λ (e : Event). e.ground) es)
+  pub events_alone : OverObjects D objs [] (map (λ (e : Event). e.act) es)
   events_alone = record { low = k.chosen.low; facts = λ f m. absurd (Memᴰ.not-nil m); bindings = waiting_in_lem }

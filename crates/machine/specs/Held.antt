@@ -40,7 +40,7 @@ pub record Kept (D : Domain) (objs : List Object) (s : State) (es : List Event) 
   pub waiting : EventsFit D es
   pub waiting_few : length es ≤ max_events
   pub chosen : OverObjects D objs s.facts s.running
-  pub waiting_over : (e : Event) → In e es → (o : Object) → In o e.ground.binding → In o objs
+  pub waiting_over : (e : Event) → In e es → (o : Object) → In o e.act.binding → In o objs
 
 -- what the memories hold when a step is closed: a domain, a state over chosen objects, of which there is one, and the events that wait,
 -- in work memory that was `old` before the run

@@ -6,7 +6,7 @@ use Prim.Native.Nat.{ℕ, suc, ◌+◌, ◌-◌, ◌*◌, ◌≤◌, ◌<◌}
 use native.Mathlib.Numerals.{add-one}
 use native.Mathlib.Omega.{arith}
 use lib.ListN.{length, get_or, set, take, drop, length-append, length-map}
-use lib.Seq.{take-suc, take_all, take_at, drop-cons, length-take-le}
+use lib.Seq.{take-suc, take_all, drop-cons, length-take-le}
 use Rattle.records.specs.Memory.{over}
 use Rattle.records.proofs.Memory.{length_over, over_more}
 use Rattle.literals.specs.declared.Variable.{Variable}

@@ -111,8 +111,8 @@ fact_taken D p b l z =
 -- an event that passes
 pub record EventTaken (D : Domain) (p : Playing) (b : List ℕ) : Type 0 where
   pub moment : byte b 0 ≡ moment_number (moment_of (byte b 0))
-  pub fits : GroundFits D (event_of b).ground
-  pub over : (o : Object) → In o (event_of b).ground.binding → In o (run_objects p)
+  pub fits : GroundFits D (event_of b).act
+  pub over : (o : Object) → In o (event_of b).act.binding → In o (run_objects p)
   pub few : length p.waiting < max_events
 
 pub event_taken : (D : Domain) (p : Playing) (b : List ℕ) → p.objects ≤ max_objects → event_stop D p.objects p.waiting b ≡ 0 → EventTaken D p b
@@ -186,8 +186,8 @@ module _ (D : Domain) where
           distinct_append s.facts (f ∷ []) k.facts_once refl
           (λ g m n. in_snoc {P = λ (x : Fact). In x s.facts → ⊥} [] f (λ x i. absurd (Memᴰ.not-nil i)) (not_fact f s.facts (ap not e)) g n m)
 
-  kept_event : (objs : List Object) (s : State) (es : List Event) (e : Event) → Kept D objs s es → GroundFits D e.ground
-      → ((o : Object) → In o e.ground.binding → In o objs) → length es < max_events → Kept D objs s (es ++ (e ∷ []))
+  kept_event : (objs : List Object) (s : State) (es : List Event) (e : Event) → Kept D objs s es → GroundFits D e.act
+      → ((o : Object) → In o e.act.binding → In o objs) → length es < max_events → Kept D objs s (es ++ (e ∷ []))
   kept_event objs s es e k h v l =
       let a = length-append es (e ∷ []) in
       record {
@@ -196,10 +196,10 @@ module _ (D : Domain) where
         facts_once = k.facts_once;
         running = k.running;
         running_few = k.running_few;
-        waiting = in_snoc {P = λ (d : Event). GroundFits D d.ground} es e k.waiting h;
+        waiting = in_snoc {P = λ (d : Event). GroundFits D d.act} es e k.waiting h;
         waiting_few = omega arith;
         chosen = k.chosen;
-        waiting_over = in_snoc {P = λ (d : Event). (o : Object) → In o d.ground.binding → In o objs} es e k.waiting_over v;
+        waiting_over = in_snoc {P = λ (d : Event). (o : Object) → In o d.act.binding → In o objs} es e k.waiting_over v;
       }
 
   pub sound_begin : (p : Playing) → Sound D p → Sound D (begin D p)

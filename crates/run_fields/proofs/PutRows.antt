@@ -48,7 +48,7 @@ fact_put p out h o =
     ∙ row_put (byte p 0 ∷ (length p - 1) ∷ []) (behind p) 6
     ∙ ap₂ (λ (a : ℕ) (t : List ℕ). byte p 0 ∷ a ∷ t) n (ap₂ (λ (t : List ℕ) (a : ℕ). t ++ replicate (6 - a) 255) (behind_first p ∙ sym (numbers_of (drop 1 p))) k)
 
-pub ground_put : (p out : List ℕ) → 2 ≤ length p → out ≡ paste (replicate 17 255) 0 (behind p) (length (behind p)) → out ≡ ground_row (event_of p).ground
+pub ground_put : (p out : List ℕ) → 2 ≤ length p → out ≡ paste (replicate 17 255) 0 (behind p) (length (behind p)) → out ≡ ground_row (event_of p).act
 ground_put p out h o =
     let l = length-map (drop 2 p) object in
     let z : 17 - suc (length (drop 2 p)) ≡ 16 - length (map object (drop 2 p)) = omega arith in

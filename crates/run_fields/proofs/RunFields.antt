@@ -273,7 +273,7 @@ module _ (head : List ℕ) (objects : ℕ) (b : List ℕ) (e : event_fields head
   event_byte = byte_moment (byte b 0) (ltb-false 1 (byte b 0) (event_none 2))
 
   -- it is an event of the domain, with an object below 64 for each variable
-  event_fits : (D : Domain) → HeadOf D head → objects ≤ 64 → GroundFits D (event_of b).ground
+  event_fits : (D : Domain) → HeadOf D head → objects ≤ 64 → GroundFits D (event_of b).act
   event_fits D H h =
       let l = event_size in
       let k = length-map (drop 2 b) object in
@@ -293,10 +293,10 @@ module _ (head : List ℕ) (objects : ℕ) (b : List ℕ) (e : event_fields head
 
   -- and it waits exactly where one of the rows is its row
   pub event_waits : (D : Domain) → HeadOf D head → objects ≤ 64 → (es : List Event) → EventsFit D es
-      → (w : Waiting) → w ≡ waiting_of es → (ground : List ℕ) → ground ≡ ground_row (event_of b).ground
-      → (r : Bool) → r ≡ any (waits_at w.moments w.rows (byte b 0) ground) (below w.count) → elem same_event (event_of b) es ≡ r
-  event_waits D H h es F w p ground g r q =
-      sym (q ∙ waiting_elem H.bounded es F w p (event_of b) (event_fits D H h) (byte b 0) ground event_byte g)
+      → (w : Waiting) → w ≡ waiting_of es → (act : List ℕ) → act ≡ ground_row (event_of b).act
+      → (r : Bool) → r ≡ any (waits_at w.moments w.rows (byte b 0) act) (below w.count) → elem same_event (event_of b) es ≡ r
+  event_waits D H h es F w p act g r q =
+      sym (q ∙ waiting_elem H.bounded es F w p (event_of b) (event_fits D H h) (byte b 0) act event_byte g)
 
 -- ---- the number that stops an event, by the bytes of the domain
 

@@ -18,19 +18,19 @@ use Rattle.events.proofs.FactRows.{few_objects, no_event, waiting_row_at, waitin
 use Rattle.events.proofs.OpenRows.{same_rows}
 
 -- an event waits exactly where one of the rows is its row, with the byte of its moment
-module _ {D : Domain} (B : Bounded D) (es : List Event) (F : EventsFit D es) (w : Waiting) (p : w ≡ waiting_of es) (e : Event) (h : GroundFits D e.ground) (moment : ℕ)
-    (ground : List ℕ) (q : moment ≡ moment_number e.moment) (r : ground ≡ ground_row e.ground) where
-  waits : (i : ℕ) → i < length es → waits_at w.moments w.rows moment ground i ≡ same_event e (get_or es i no_event)
+module _ {D : Domain} (B : Bounded D) (es : List Event) (F : EventsFit D es) (w : Waiting) (p : w ≡ waiting_of es) (e : Event) (h : GroundFits D e.act) (moment : ℕ)
+    (act : List ℕ) (q : moment ≡ moment_number e.moment) (r : act ≡ ground_row e.act) where
+  waits : (i : ℕ) → i < length es → waits_at w.moments w.rows moment act i ≡ same_event e (get_or es i no_event)
   unfolding waits_at
   waits i l =
       let f : Event = get_or es i no_event in
       ap₂ (λ (a b : Bool). a && b)
       (ap₂ eqb q (waiting_moment_at es w p i))
-      (ap₂ (same_list eqb) r (waiting_row_at es (λ d m. few_objects B d.ground (F d m)) w p i l) ∙ same_rows B e.ground f.ground h (F f (get_d_in es i no_event l)))
+      (ap₂ (same_list eqb) r (waiting_row_at es (λ d m. few_objects B d.act (F d m)) w p i l) ∙ same_rows B e.act f.act h (F f (get_d_in es i no_event l)))
 
-  pub waiting_elem : any (waits_at w.moments w.rows moment ground) (below w.count) ≡ elem same_event e es
+  pub waiting_elem : any (waits_at w.moments w.rows moment act) (below w.count) ≡ elem same_event e es
   waiting_elem =
-      ap (λ (n : ℕ). any (waits_at w.moments w.rows moment ground) (below n)) (waiting_count es w p)
-      ∙ any_below (waits_at w.moments w.rows moment ground) (λ i. same_event e (get_or es i no_event)) (length es) waits
+      ap (λ (n : ℕ). any (waits_at w.moments w.rows moment act) (below n)) (waiting_count es w p)
+      ∙ any_below (waits_at w.moments w.rows moment act) (λ i. same_event e (get_or es i no_event)) (length es) waits
       ∙ sym (any_map (λ i. get_or es i no_event) (same_event e) (below (length es)))
       ∙ ap (any (same_event e)) (at_all no_event es)

@@ -29,4 +29,4 @@ event_fields head objects b =
 
 -- the event at a place of those that wait is this one, by the byte of its moment and the row of its action
 unfoldable pub waits_at : List ℕ → List ℕ → ℕ → List ℕ → ℕ → Bool
-waits_at moments rows moment ground i = eqb moment (get_or moments i 0) && same_list eqb ground (take ground_bytes (drop (ground_bytes * i) rows))
+waits_at moments rows moment act i = eqb moment (get_or moments i 0) && same_list eqb act (take ground_bytes (drop (ground_bytes * i) rows))

@@ -90,7 +90,7 @@ pub fn fact_row(p: &[u8]) -> [u8; 8]
 pub fn ground_row(p: &[u8]) -> [u8; GROUND]
     requires action { 2 ≤ length p.now }
     requires objects { length p.now ≤ 2 + max_variables }
-    ensures { result ≡ ground_row (event_of p.now).ground }
+    ensures { result ≡ ground_row (event_of p.now).act }
 {
     let mut row = [255u8; GROUND];
     put_bytes(&mut row, 0, &p[1..]);
@@ -211,27 +211,27 @@ fn twice_from(p: &[u8], from: usize) -> bool
 }
 
 // Whether the event at a place of those that wait is this one.
-fn waits_at(moments: &[u8], rows: &[u8], moment: u8, ground: &[u8], i: usize) -> bool
+fn waits_at(moments: &[u8], rows: &[u8], moment: u8, act: &[u8], i: usize) -> bool
     requires moment { i < length moments.now }
     requires event { ground_bytes * i + ground_bytes ≤ length rows.now }
-    requires row { length ground.now ≡ ground_bytes }
-    ensures { result ≡ waits_at moments.now rows.now moment ground.now i }
+    requires row { length act.now ≡ ground_bytes }
+    ensures { result ≡ waits_at moments.now rows.now moment act.now i }
 {
     if moment == moments[i] {
-        return same_ground(rows, GROUND * i, ground);
+        return same_ground(rows, GROUND * i, act);
     }
     false
 }
 
 // Whether this event waits: an action with objects, at the moment of this byte.
-fn is_waiting(moments: &[u8], rows: &[u8], count: usize, moment: u8, ground: [u8; GROUND]) -> bool
+fn is_waiting(moments: &[u8], rows: &[u8], count: usize, moment: u8, act: [u8; GROUND]) -> bool
     requires few { count ≤ max_events }
     requires moments { length moments.now ≡ max_events }
     requires events { length rows.now ≡ waiting_bytes }
-    ensures { result ≡ any (waits_at moments.now rows.now moment ground) (below count) }
+    ensures { result ≡ any (waits_at moments.now rows.now moment act) (below count) }
 {
     for i in 0..count {
-        if waits_at(moments, rows, moment, &ground, i) {
+        if waits_at(moments, rows, moment, &act, i) {
             return true;
         }
     }

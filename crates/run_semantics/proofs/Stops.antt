@@ -183,7 +183,7 @@ moment_flip End End e = e
 event_flip : (e f : Event) → same_event e f ≡ true → same_event f e ≡ true
 event_flip e f t =
     and_i (moment_flip e.moment f.moment (and_l _ _ t))
-    (rw (ground_eq e.ground f.ground (and_r (same_moment e.moment f.moment) _ t)) (and_i (eqb_same f.ground.action) (objects_self f.ground.binding)))
+    (rw (ground_eq e.act f.act (and_r (same_moment e.moment f.moment) _ t)) (and_i (eqb_same f.act.action) (objects_self f.act.binding)))
 
 pub no_events : (D : Domain) → legal_step D [] ≡ true
 unfolding legal_step

@@ -56,7 +56,7 @@ moment_of b = cond (eqb b 1) Ending Start
 
 -- kind 18: "moment, action, objects"
 abbrev pub event_of : List ℕ → Event
-event_of b = record { moment = moment_of (byte b 0); ground = record { action = byte b 1; binding = map object (drop 2 b) } }
+event_of b = record { moment = moment_of (byte b 0); act = record { action = byte b 1; binding = map object (drop 2 b) } }
 
 -- ---- the records of a file
 

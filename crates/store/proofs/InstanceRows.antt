@@ -29,7 +29,7 @@ use Rattle.literals.proofs.Held.{keys_few}
 use Rattle.literals.proofs.Heads.{parts_length, part_row, template_of}
 use Rattle.literals.specs.Matching.{key_tuple, is_of, tuples_by, tuples_of, has_tuple}
 use Rattle.classes.specs.Held.{tuple_row}
-use Rattle.literals.proofs.KeyRows.{place_le, length_rows, rows_at}
+use Rattle.literals.proofs.KeyRows.{place_le}
 use Rattle.classes.proofs.Numbers.{tuples_rows}
 use Rattle.verdict.specs.Judged.{object_numbers}
 use Rattle.verdict.specs.Machine.{weight, instances_in, largest}

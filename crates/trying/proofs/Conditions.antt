@@ -260,7 +260,7 @@ module _ (D : Domain) (wf : well_formed D ≡ true) (i : ℕ) (idx : i < length 
     vars_few : (action D i).vars ≤ 16
     vars_few = B.counts (action D i) (action_in D i idx)
 
-    pub chosen : OverObjects D objs (held_facts D i) (ev.ground ∷ [])
+    pub chosen : OverObjects D objs (held_facts D i) (ev.act ∷ [])
     chosen =
         record {
           low = λ o m. let r = (objects_range 0 (suc (action D i).vars) o m).1 in let k = vars_few in omega arith;

@@ -36,7 +36,7 @@ pub plain_grounded : {D : Domain} {head : List ℕ} → HeadOf D head → (i : �
 plain_grounded {D} H i h memory next n size same few e k =
     record {
       says = H;
-      fit = λ f m. subst (λ (f : Event). GroundFits D f.ground) (sym (Memᴰ.eq_of_singleton m)) (plain_fits H.bounded i h);
+      fit = λ f m. subst (λ (f : Event). GroundFits D f.act) (sym (Memᴰ.eq_of_singleton m)) (plain_fits H.bounded i h);
       laid = subst (λ (j : ℕ). Laid (event_literals D (plain_event D i) ∷ []) (set next counts_at j) n) (sub-zero n)
           (laid_more (laid_none memory) (event_literals D (plain_event D i)) 0 refl next n (omega arith) (omega arith) e k);
     }

@@ -44,8 +44,8 @@ module _ (D : Domain) (objs : List Object) (s : List Fact) where
       (own_asked_facts D objs e Negative m)))
 
   -- at an end it is its own and the over-all ones
-  asked_by : (g : GroundAction) (c : Usage) (q : Fact → Bool) → all q (event_facts D objs (record { moment = End; ground = g }) c) ≡ true
-      → all q (over_all_facts D objs g c) ≡ true → all q (required_facts D objs (record { moment = End; ground = g }) c) ≡ true
+  asked_by : (g : GroundAction) (c : Usage) (q : Fact → Bool) → all q (event_facts D objs (record { moment = End; act = g }) c) ≡ true
+      → all q (over_all_facts D objs g c) ≡ true → all q (required_facts D objs (record { moment = End; act = g }) c) ≡ true
   unfolding event_facts required_facts over_all_facts
   asked_by g c q t u =
       all_of q (flat_map facts (required a End c))
@@ -61,27 +61,27 @@ module _ (D : Domain) (objs : List Object) (s : List Fact) where
       go p f i (inl m) = all_in q (flat_map facts (literals_at a End c)) t (in_flat_map facts m i)
       go p f i (inr m) = all_in q (flat_map facts (over_all_literals a c)) u (in_flat_map facts m i)
 
-  end_asked : (g : GroundAction) → over_all_hold D objs s g ≡ true → own_hold D objs s (record { moment = End; ground = g }) ≡ true
-      → conditions_hold D objs s (record { moment = End; ground = g }) ≡ true
+  end_asked : (g : GroundAction) → over_all_hold D objs s g ≡ true → own_hold D objs s (record { moment = End; act = g }) ≡ true
+      → conditions_hold D objs s (record { moment = End; act = g }) ≡ true
   unfolding conditions_hold own_hold over_all_hold
   end_asked g o t =
       and_i (asked_by g Positive held (and_l _ _ t) (and_l _ _ o))
-      (asked_by g Negative lacked (and_r (all held (event_facts D objs (record { moment = End; ground = g }) Positive)) _ t)
+      (asked_by g Negative lacked (and_r (all held (event_facts D objs (record { moment = End; act = g }) Positive)) _ t)
       (and_r (all held (over_all_facts D objs g Positive)) _ o))
 
   module _ (gs : List GroundAction) (over : all (over_all_hold D objs s) gs ≡ true) where
     event_own : (m : Moment) (g : GroundAction) → is_open_at m gs g ≡ true
-        → conditions_hold D objs s (record { moment = m; ground = g }) ≡ own_hold D objs s (record { moment = m; ground = g })
+        → conditions_hold D objs s (record { moment = m; act = g }) ≡ own_hold D objs s (record { moment = m; act = g })
     unfolding conditions_hold own_hold required_facts event_facts required literals_at
     event_own Start g o = refl
     event_own End g o =
-        both_ways (conditions_hold D objs s (record { moment = End; ground = g })) (own_hold D objs s (record { moment = End; ground = g }))
-        (own_of (record { moment = End; ground = g }))
+        both_ways (conditions_hold D objs s (record { moment = End; act = g })) (own_hold D objs s (record { moment = End; act = g }))
+        (own_of (record { moment = End; act = g }))
         (end_asked g (all_in (over_all_hold D objs s) gs over (elem_in same_ground ground_eq g gs o)))
 
     events_own : (es : List Event) → all (is_open gs) es ≡ true → all (conditions_hold D objs s) es ≡ all (own_hold D objs s) es
     events_own [] o = refl
-    events_own (e ∷ es) o = ap₂ ◌&&◌ (event_own e.moment e.ground (and_l _ _ o)) (events_own es (and_r (is_open gs e) _ o))
+    events_own (e ∷ es) o = ap₂ ◌&&◌ (event_own e.moment e.act (and_l _ _ o)) (events_own es (and_r (is_open gs e) _ o))
 
 pub own_is_enough : OwnIsEnough
 own_is_enough D objs s es o v = events_own D objs s.facts s.running v es o

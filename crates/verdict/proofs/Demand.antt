@@ -143,14 +143,14 @@ module _ (D : Domain) (nl : none_lasts D ≡ true) where
         refused : Shown D (decided D) → refused_for_class (decided D) ≡ true
         refused s = and_i (le-leb 40 (decided D).number s.numbered.0) (le-leb (decided D).number 43 (let z = s.numbered.1 in omega arith))
 
-        listed : e.ground.action < length D.actions
+        listed : e.act.action < length D.actions
         listed = harm_listed D wf objs fs y e h
 
         go : Outcome (rows D) (decision D) → refused_for_class (decided D) ≡ true
         go (inl de) =
-            let k = harm_of_faulty_class D wf objs fs y e h (at_once_lem e.ground.action listed) in
+            let k = harm_of_faulty_class D wf objs fs y e h (at_once_lem e.act.action listed) in
             let c = k.1 in
-            let r = row_of_lem D e.ground.action (class_at D e.ground.action k.0) Start c.listed refl (class_listed D e.ground.action k.0 c.numbered) in
+            let r = row_of_lem D e.act.action (class_at D e.act.action k.0) Start c.listed refl (class_listed D e.act.action k.0 c.numbered) in
             absurd (k.3 (fine_rows D true (ap (λ (d : Decision). d.number) de) _ r.2).sound)
         go (inr (r, m, f, de)) = refused (shown r m f de)
 

@@ -83,17 +83,17 @@ in_after D objs s es f h = go h (bool_cases (elem same_fact f kept))
 -- ---- a legal event
 
 module _ (D : Domain) (e : Event) (ok : legal D e ≡ true) where
-  pub legal_listed : e.ground.action < length D.actions
+  pub legal_listed : e.act.action < length D.actions
   unfolding legal
   legal_listed = ltb-true _ _ (and_l _ _ (and_l _ _ ok))
 
-  pub legal_moment : has_moment (action D e.ground.action) e.moment ≡ true
+  pub legal_moment : has_moment (action D e.act.action) e.moment ≡ true
   unfolding legal
-  legal_moment = and_r (ltb e.ground.action (length D.actions)) _ (and_l _ _ ok)
+  legal_moment = and_r (ltb e.act.action (length D.actions)) _ (and_l _ _ ok)
 
-  pub legal_length : length e.ground.binding ≡ (action D e.ground.action).vars
+  pub legal_length : length e.act.binding ≡ (action D e.act.action).vars
   unfolding legal
-  legal_length = eqb-true _ _ (and_r (ltb e.ground.action (length D.actions) && has_moment (action D e.ground.action) e.moment) _ ok)
+  legal_length = eqb-true _ _ (and_r (ltb e.act.action (length D.actions) && has_moment (action D e.act.action) e.moment) _ ok)
 
 -- ---- an allowed step
 
@@ -113,8 +113,8 @@ pub own_asked_facts : (D : Domain) (objs : List Object) (e : Event) (c : Usage) 
     → In f (required_facts D objs e c)
 unfolding event_facts required_facts
 own_asked_facts D objs e c m =
-    let a = action D e.ground.action in
-    let facts = facts_of objs e.ground.binding in
+    let a = action D e.act.action in
+    let facts = facts_of objs e.act.binding in
     let r = flat_map_in facts (literals_at a e.moment c) m in
     in_flat_map facts (own_required a e.moment c r.1) r.2
 

@@ -108,10 +108,10 @@ one_event D wf objs y fs e fo ev act w al =
 
 module _ (D : Domain) (wf : well_formed D ≡ true) (objs : List Object) (fs : List Fact) (y : List Object) (e : Event) (h : Harm D objs fs y e) where
   abbrev a : Action
-  a = action D e.ground.action
+  a = action D e.act.action
 
   abbrev b : Binding
-  b = e.ground.binding
+  b = e.act.binding
 
   is_legal : legal D e ≡ true
   is_legal = and_l _ _ (and_l _ _ h.event)
@@ -119,14 +119,14 @@ module _ (D : Domain) (wf : well_formed D ≡ true) (objs : List Object) (fs : L
   dis : distinct same_object b ≡ true
   dis = and_r (legal D e) _ (and_l _ _ h.event)
 
-  pub harm_listed : e.ground.action < length D.actions
+  pub harm_listed : e.act.action < length D.actions
   harm_listed = legal_listed D e is_legal
 
   len : length b ≡ a.vars
   len = legal_length D e is_legal
 
   ok : well_formed_action D a ≡ true
-  ok = action_well_formed D wf e.ground.action harm_listed
+  ok = action_well_formed D wf e.act.action harm_listed
 
   inside : (o : Object) → In o b → In o objs
   inside = among_in objs b (and_r (legal D e && injective e) _ h.event)
@@ -160,12 +160,12 @@ pub harm_of_faulty_class : HarmIsOfFaultyClass
 unfolding class_at
 harm_of_faulty_class D wf objs fs y e h once =
     let r = bound D wf objs fs y e h in
-    let k = in_get_d (classes D (action D e.ground.action)) [] r.1 in
-    let a = action D e.ground.action in
-    let m : e.moment ≡ Start = start_only (action D e.ground.action) e.moment (legal_moment D e (is_legal D wf objs fs y e h)) once in (
+    let k = in_get_d (classes D (action D e.act.action)) [] r.1 in
+    let a = action D e.act.action in
+    let m : e.moment ≡ Start = start_only (action D e.act.action) e.moment (legal_moment D e (is_legal D wf objs fs y e h)) once in (
       k.0,
       record { listed = harm_listed D wf objs fs y e h; at_once_lem = once; numbered = k.1 },
-      ap (bind_tuple e.ground.binding) k.2 ∙ r.2,
+      ap (bind_tuple e.act.binding) k.2 ∙ r.2,
       λ z. faulty D wf objs fs y e h r.0 r.1 r.2 (ap (λ n. fault_by (name_of D a r.0 n) false) m ∙ ap (λ x. fault_by (name_of D a x Start) false) (sym k.2) ∙ z),
     )
 

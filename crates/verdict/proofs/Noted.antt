@@ -1,7 +1,6 @@
 -- Laws of summaries and notes for code that goes forward: one row more, one summary more. Assumes nothing.
-use mathlib.Core.Path.{◌≡◌, refl, sym, ap, ap₂, ◌∙◌}
+use mathlib.Core.Path.{◌≡◌, refl, sym, ap, ◌∙◌}
 use mathlib.Core.Bool.{Bool, true, false, ◌&&◌, not, ◌||◌, cond}
-use mathlib.Core.Option.{Option, none, some}
 use mathlib.Core.List.{List, [], ◌∷◌, ◌++◌, head?}
 use Prim.Native.Nat.{ℕ, suc, ◌+◌}
 use native.Mathlib.Omega.{arith}
@@ -20,7 +19,7 @@ use Rattle.verdict.specs.declared.Place.{Place}
 use Rattle.verdict.specs.declared.Place.TheVariants.{Missing, Found}
 use Rattle.verdict.specs.declared.Summary.{Summary}
 use Rattle.verdict.specs.declared.Notes.{Notes}
-use Rattle.verdict.specs.Decision.{Row, is_unbounded, is_bounded, fault_by, is_bounded_outside, has_fault, first_row}
+use Rattle.verdict.specs.Decision.{Row, is_unbounded, is_bounded, fault_by, is_bounded_outside, has_fault}
 use Rattle.verdict.specs.Judged.{Answer, answer_at}
 use Rattle.verdict.specs.Summaries.{spot_of, first_spot, has_unbounded, summary_rows, place_in, place_else, first_place, notes_of, answer_place, faultless}
 use Rattle.verdict.specs.Held.{judgement_of, row_for, spot_else, is_nowhere, is_silent}

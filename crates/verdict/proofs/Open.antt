@@ -60,10 +60,10 @@ module _ (c : GroundAction → ℕ) where
   starts_at End g = 0
 
   abbrev pub ends : Event → ℕ
-  ends e = ends_at e.moment e.ground
+  ends e = ends_at e.moment e.act
 
   abbrev pub starts : Event → ℕ
-  starts e = starts_at e.moment e.ground
+  starts e = starts_at e.moment e.act
 
   close_at_sum : (m : Moment) (g : GroundAction) (gs : List GroundAction) → is_open_at m gs g ≡ true → sum c (close_at m g gs) + ends_at m g ≡ sum c gs
   close_at_sum Start g gs h = omega arith
@@ -73,9 +73,9 @@ module _ (c : GroundAction → ℕ) where
       → sum c (close_all es gs) + sum ends es ≡ sum c gs
   close_all_sum [] gs h d = omega arith
   close_all_sum (e ∷ es) gs h d =
-      let first = close_at_sum e.moment e.ground gs (h e (Memᴰ.head refl)) in
-      let rest = close_all_sum es (close_at e.moment e.ground gs)
-      (λ f m. still_open e.moment f.moment e.ground f.ground gs (h f (Memᴰ.tail m)) (other f m)) (and_r (all (λ f. not (same_event e f)) es) _ d) in
+      let first = close_at_sum e.moment e.act gs (h e (Memᴰ.head refl)) in
+      let rest = close_all_sum es (close_at e.moment e.act gs)
+      (λ f m. still_open e.moment f.moment e.act f.act gs (h f (Memᴰ.tail m)) (other f m)) (and_r (all (λ f. not (same_event e f)) es) _ d) in
       omega arith
     where
       other : (f : Event) → In f es → same_event e f ≡ false
@@ -95,7 +95,7 @@ module _ (c : GroundAction → ℕ) where
     opened_by_sum [] = refl
     opened_by_sum (e ∷ es) =
         let r = opened_by_sum es in
-        let k = keep_sum e.moment e.ground (opened_by D es) in
+        let k = keep_sum e.moment e.act (opened_by D es) in
         omega arith
 
     pub running_sum : (es : List Event) (gs : List GroundAction) → ((e : Event) → In e es → is_open gs e ≡ true) → distinct same_event es ≡ true

@@ -34,16 +34,16 @@ Over objs f = (o : Object) → In o f.args → In o objs
 
 module _ (D : Domain) (objs : List Object) where
   -- the facts of an event whose binding is, of a domain that was read
-  pub event_over : Bounded D → (e : Event) → e.ground.action < length D.actions
-      → length e.ground.binding ≡ (action D e.ground.action).vars → ((o : Object) → In o e.ground.binding → In o objs)
+  pub event_over : Bounded D → (e : Event) → e.act.action < length D.actions
+      → length e.act.binding ≡ (action D e.act.action).vars → ((o : Object) → In o e.act.binding → In o objs)
       → (c : Usage) (f : Fact) → In f (event_facts D objs e c) → Over objs f
   unfolding event_facts
   event_over B e i n h c f m =
-      let a = action D e.ground.action in
-      let r = flat_map_in (facts_of objs e.ground.binding) (literals_at a e.moment c) m in
+      let a = action D e.act.action in
+      let r = flat_map_in (facts_of objs e.act.binding) (literals_at a e.moment c) m in
       let l = literals_at_in a e.moment c r.1 in
-      facts_over objs e.ground.binding h r.0
-      (rw l.3 (λ v k. let z = B.below a (action_in D e.ground.action i) l.0 l.1 v k in omega arith)) f r.2
+      facts_over objs e.act.binding h r.0
+      (rw l.3 (λ v k. let z = B.below a (action_in D e.act.action i) l.0 l.1 v k in omega arith)) f r.2
 
   -- the facts after a step whose adds are
   pub after_adds : (s : List Fact) (es : List Event) → ((e : Event) → In e es → (f : Fact) → In f (event_facts D objs e Add) → Over objs f)
@@ -60,9 +60,9 @@ module _ (D : Domain) (wf : well_formed D ≡ true) (objs : List Object) where
   unfolding event_facts
   added_over e h f m =
       let l : legal D e ≡ true = and_l _ _ (and_l _ _ h) in
-      effect_over D (action D e.ground.action) (action_well_formed D wf e.ground.action (legal_listed D e l)) objs
-      e.ground.binding (legal_length D e l)
-      (and_r (legal D e) _ (and_l _ _ h)) (among_in objs e.ground.binding (and_r (legal D e && injective e) _ h)) [] e.moment Add f m
+      effect_over D (action D e.act.action) (action_well_formed D wf e.act.action (legal_listed D e l)) objs
+      e.act.binding (legal_length D e l)
+      (and_r (legal D e) _ (and_l _ _ h)) (among_in objs e.act.binding (and_r (legal D e && injective e) _ h)) [] e.moment Add f m
 
   -- the facts after a step
   pub after_over : (s : List Fact) (es : List Event) → ((e : Event) → In e es → is_event D objs e ≡ true)

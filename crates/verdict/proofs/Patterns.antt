@@ -52,13 +52,13 @@ plain_row b p h =
     bytes (Every ∷ vs) h = absurd (omega arith)
 
 -- an event's true conditions and adds stand for one fact each, in file order
-pub plain_event_lem : (D : Domain) (objs : List Object) (e : Event) → well_formed_action D (action D e.ground.action) ≡ true
+pub plain_event_lem : (D : Domain) (objs : List Object) (e : Event) → well_formed_action D (action D e.act.action) ≡ true
     → (c : Usage) → may_clear c ≡ false
-    → event_facts D objs e c ≡ map (bind e.ground.binding) (literals_at (action D e.ground.action) e.moment c)
+    → event_facts D objs e c ≡ map (bind e.act.binding) (literals_at (action D e.act.action) e.moment c)
 unfolding event_facts
 plain_event_lem D objs e ok c k =
-    plain_flat objs e.ground.binding (literals_at (action D e.ground.action) e.moment c)
-    (λ p m. literals_plain D (action D e.ground.action) ok e.moment c p m k)
+    plain_flat objs e.act.binding (literals_at (action D e.act.action) e.moment c)
+    (λ p m. literals_plain D (action D e.act.action) ok e.moment c p m k)
 
 -- ---- bytes that meet
 

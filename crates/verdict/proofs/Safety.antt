@@ -83,7 +83,7 @@ pub record InjectiveStep (D : Domain) (objs : List Object) (es : List Event) : T
   pub legal_events : all (legal D) es ≡ true
   pub different : distinct same_event es ≡ true
   pub injective_events : all injective es ≡ true
-  pub events_over : all (λ (e : Event). among objs e.ground.binding) es ≡ true
+  pub events_over : all (λ (e : Event). among objs e.act.binding) es ≡ true
 
 module _ (D : Domain) (wf : well_formed D ≡ true) (v : Bool) (acc : (decision D).number ≡ cond v 0 1) (objs : List Object)
     (y : List Object) where
@@ -122,10 +122,10 @@ module _ (D : Domain) (wf : well_formed D ≡ true) (v : Bool) (acc : (decision 
   harmless_row a x m r j = harmless_of v (name_of D a x m) (journey_end_at D a x m) (fine_rows D v acc _ r.2) (λ vf. end_only a x m (j vf))
 
   -- what an event of the domain does to the instance, where what it asks has at most one fact of the instance
-  event_act : (m : Moment) (g : GroundAction) → legal D (record { moment = m; ground = g }) ≡ true → distinct same_object g.binding ≡ true
+  event_act : (m : Moment) (g : GroundAction) → legal D (record { moment = m; act = g }) ≡ true → distinct same_object g.binding ≡ true
       → among objs g.binding ≡ true
-      → Alive (instance_has D objs y) (required_facts D objs (record { moment = m; ground = g }) Positive)
-      → Act (instance_has D objs y) v (event_facts D objs (record { moment = m; ground = g })) (starts_at c m g) (ends_at c m g)
+      → Alive (instance_has D objs y) (required_facts D objs (record { moment = m; act = g }) Positive)
+      → Act (instance_has D objs y) v (event_facts D objs (record { moment = m; act = g })) (starts_at c m g) (ends_at c m g)
   unfolding event_facts required_facts
   event_act m g h dis over alive = by_class (bool_cases (any (λ x. same_list same_object (bind_tuple b x) y) (classes D a)))
     where
@@ -136,7 +136,7 @@ module _ (D : Domain) (wf : well_formed D ≡ true) (v : Bool) (acc : (decision 
       b = g.binding
 
       e : Event
-      e = record { moment = m; ground = g }
+      e = record { moment = m; act = g }
 
       idx : g.action < length D.actions
       idx = legal_listed D e h
@@ -157,7 +157,7 @@ module _ (D : Domain) (wf : well_formed D ≡ true) (v : Bool) (acc : (decision 
       one x z j k = one_class D a ok objs b len dis inside y x z j.listed k.listed j.bound k.bound
 
       at_journey : (m : Moment) (x : List Variable) → BoundJourney D y g x → v ≡ false
-          → Act (instance_has D objs y) v (event_facts D objs (record { moment = m; ground = g })) (starts_at c m g) (ends_at c m g)
+          → Act (instance_has D objs y) v (event_facts D objs (record { moment = m; act = g })) (starts_at c m g) (ends_at c m g)
       at_journey Start x j vf =
           start_act D a ok objs b len dis inside y x j.listed j.bound (journey_of D a x j.is_journey) v _ _ vf
           (one_counted g vf one x j) refl
@@ -166,7 +166,7 @@ module _ (D : Domain) (wf : well_formed D ≡ true) (v : Bool) (acc : (decision 
           (one_counted g vf one x j)
 
       elsewhere : (x : List Variable) → In x (classes D a) → bind_tuple b x ≡ y → (v ≡ false → journey D a x ≡ false)
-          → Act (instance_has D objs y) v (event_facts D objs (record { moment = m; ground = g })) (starts_at c m g) (ends_at c m g)
+          → Act (instance_has D objs y) v (event_facts D objs (record { moment = m; act = g })) (starts_at c m g) (ends_at c m g)
       elsewhere x hx ex nj =
           let z : c g ≡ 0 = none_counted g (λ vf u j.
           clash (sym (ap (journey D a) (one_class D a ok objs b len dis inside y u x j.listed hx j.bound ex)) ∙ j.is_journey)
@@ -176,13 +176,13 @@ module _ (D : Domain) (wf : well_formed D ≡ true) (v : Bool) (acc : (decision 
           (harmless_row a x m (row_of_lem D g.action x m idx has hx) nj)
 
       by_journey : (x : List Variable) → In x (classes D a) → bind_tuple b x ≡ y → (v ≡ true) ⊎ (v ≡ false) → (journey D a x ≡ true) ⊎ (journey D a x ≡ false)
-          → Act (instance_has D objs y) v (event_facts D objs (record { moment = m; ground = g })) (starts_at c m g) (ends_at c m g)
+          → Act (instance_has D objs y) v (event_facts D objs (record { moment = m; act = g })) (starts_at c m g) (ends_at c m g)
       by_journey x hx ex (inl vt) j = elsewhere x hx ex (λ vf. absurd (clash vt vf))
       by_journey x hx ex (inr vf) (inl t) = at_journey m x (record { listed = hx; is_journey = t; bound = ex }) vf
       by_journey x hx ex (inr vf) (inr f) = elsewhere x hx ex (λ _. f)
 
       by_class : (any (λ x. same_list same_object (bind_tuple b x) y) (classes D a) ≡ true) ⊎ (any (λ x. same_list same_object (bind_tuple b x) y) (classes D a) ≡ false)
-          → Act (instance_has D objs y) v (event_facts D objs (record { moment = m; ground = g })) (starts_at c m g) (ends_at c m g)
+          → Act (instance_has D objs y) v (event_facts D objs (record { moment = m; act = g })) (starts_at c m g) (ends_at c m g)
       by_class (inl t) =
           let r = any_in (λ x. same_list same_object (bind_tuple b x) y) (classes D a) t in
           by_journey r.0 r.1 (objects_eq _ y r.2) (bool_cases v) (bool_cases (journey D a r.0))
@@ -223,8 +223,8 @@ module _ (D : Domain) (wf : well_formed D ≡ true) (v : Bool) (acc : (decision 
             and_r (all (is_open s.running) es && all (conditions_hold D objs s.facts) es
             && all (over_all_hold D objs s.facts) s.running) _ al;
         acts =
-            λ e m. event_act e.moment e.ground (all_in (legal D) es l.legal_events m) (all_in injective es l.injective_events m)
-            (all_in (λ (e : Event). among objs e.ground.binding) es l.events_over m) (alive e m);
+            λ e m. event_act e.moment e.act (all_in (legal D) es l.legal_events m) (all_in injective es l.injective_events m)
+            (all_in (λ (e : Event). among objs e.act.binding) es l.events_over m) (alive e m);
         ended = close_all_sum c es s.running op l.different;
         moved = running_sum c D not_lasting es s.running op l.different;
       }
@@ -234,7 +234,7 @@ module _ (D : Domain) (wf : well_formed D ≡ true) (v : Bool) (acc : (decision 
   over_next s es l k =
       after_over D wf objs s.facts es
       (λ e m. and_i (and_i (all_in (legal D) es l.legal_events m) (all_in injective es l.injective_events m))
-      (all_in (λ (e : Event). among objs e.ground.binding) es l.events_over m)) k
+      (all_in (λ (e : Event). among objs e.act.binding) es l.events_over m)) k
 
   -- a fact of a guarded state that the instance matches
   fits : (f : Fact) → Over objs f → matches D y f ≡ true → instance_has D objs y f ≡ true
@@ -388,7 +388,7 @@ steps_injective D objs fs y steps ch es m =
       different = and_r (all (legal D) es) _ l;
       injective_events = all_of injective es (λ e n. and_r (legal D e) _ (and_l _ _ (all_in (is_event D objs) es ev n)));
       events_over =
-          all_of (λ (e : Event). among objs e.ground.binding) es
+          all_of (λ (e : Event). among objs e.act.binding) es
           (λ e n. and_r (legal D e && injective e) _ (all_in (is_event D objs) es ev n));
     }
 

@@ -1,6 +1,6 @@
 -- A step that is allowed where an end's over-all conditions count for interference too is allowed. Assumes nothing.
 use mathlib.Core.Path.{◌≡◌, refl}
-use mathlib.Core.Bool.{Bool, true, false, ◌&&◌, ◌||◌, not}
+use mathlib.Core.Bool.{Bool, true, false, ◌&&◌, not}
 use mathlib.Core.Logic.{◌⊎◌, inl, inr}
 use mathlib.Core.List.Memᴰ
 use mathlib.Core.List.{List, ◌++◌}
@@ -9,7 +9,7 @@ use Rattle.records.proofs.Lists.{and_l, and_r, and_i, or_l, or_r, or_cases, in_a
 use Rattle.literals.specs.declared.Object.{Object}
 use Rattle.literals.specs.declared.Usage.TheVariants.{Positive, Negative}
 use Rattle.literals.specs.Domain.{Fact, same_fact, Domain}
-use Rattle.verdict.specs.Machine.{Event, State, event_facts, required_facts, added_facts, struck_facts, is_open, conditions_hold, over_all_hold, meet, disturbs, interfere, allowed}
+use Rattle.verdict.specs.Machine.{Event, event_facts, required_facts, added_facts, struck_facts, is_open, conditions_hold, over_all_hold, meet, disturbs, interfere, allowed}
 use Rattle.verdict.specs.Claims.{disturbs_with_over_all, interfere_with_over_all, Wider}
 use Rattle.verdict.proofs.Events.{own_asked_facts}
 

@@ -58,7 +58,7 @@ is_instance D objs y = eqb (length y) (keys_of D.template) && among objs y
 
 -- an event of the domain over the objects, "with different objects for different variables"
 abbrev pub is_event : Domain → List Object → Event → Bool
-is_event D objs e = legal D e && injective e && among objs e.ground.binding
+is_event D objs e = legal D e && injective e && among objs e.act.binding
 
 pub record Chosen (D : Domain) (objs : List Object) (fs : List Fact) (y : List Object) (steps : List (List Event)) : Type 0 where
   pub facts_over : all (λ (f : Fact). among objs f.args) fs ≡ true
@@ -152,7 +152,7 @@ ExactnessOfFile = (f : List ℕ) (D : Domain) → decode f ≡ domain D → none
 
 -- the start of an action, or the action at once, "take the objects 0 to the variable count and bind variable i to object i"
 abbrev pub plain_event : Domain → ℕ → Event
-plain_event D i = record { moment = Start; ground = record { action = i; binding = same_numbers (action D i) } }
+plain_event D i = record { moment = Start; act = record { action = i; binding = same_numbers (action D i) } }
 
 -- its objects: one for each variable, and the spare one
 abbrev pub plain_objects : Domain → ℕ → List Object
@@ -200,9 +200,9 @@ ClassExactness =
 abbrev pub HarmIsOfFaultyClass : Type 0
 HarmIsOfFaultyClass =
     (D : Domain) → well_formed D ≡ true → (objs : List Object) (fs : List Fact) (y : List Object) (e : Event) → Harm D objs fs y e
-    → (action D e.ground.action).lasting ≡ false
-    → (j : ℕ) × ClassAtOnce D e.ground.action j × (bind_tuple e.ground.binding (class_at D e.ground.action j) ≡ y)
-    × FaultyClass D e.ground.action j
+    → (action D e.act.action).lasting ≡ false
+    → (j : ℕ) × ClassAtOnce D e.act.action j × (bind_tuple e.act.binding (class_at D e.act.action j) ≡ y)
+    × FaultyClass D e.act.action j
 
 -- ---- verdict 1: weight and open journeys
 

@@ -22,7 +22,7 @@ pub record GroundAction : Type 0 where
 -- "An event is an action at once, a start, or an end, with a binding of its variables"
 pub record Event : Type 0 where
   pub moment : Moment
-  pub ground : GroundAction
+  pub act : GroundAction
 
 -- "State: a set of facts and a list of open lasting actions with bindings, where one entry may occur twice."
 pub record State : Type 0 where
@@ -36,17 +36,17 @@ abbrev pub same_moment : Moment → Moment → Bool
 same_moment m n = eqb (moment_number m) (moment_number n)
 
 abbrev pub same_event : Event → Event → Bool
-same_event e f = same_moment e.moment f.moment && same_ground e.ground f.ground
+same_event e f = same_moment e.moment f.moment && same_ground e.act f.act
 
 -- the facts that an event's own literals of one usage stand for
 unfoldable pub event_facts : Domain → List Object → Event → Usage → List Fact
 unfolding literals_at action facts_of flat_map
-event_facts D objs e c = flat_map (facts_of objs e.ground.binding) (literals_at (action D e.ground.action) e.moment c)
+event_facts D objs e c = flat_map (facts_of objs e.act.binding) (literals_at (action D e.act.action) e.moment c)
 
 -- the facts that an event's conditions require or forbid in the state that the step is taken from: an end's own and over-all ones
 unfoldable pub required_facts : Domain → List Object → Event → Usage → List Fact
 unfolding required action facts_of flat_map
-required_facts D objs e c = flat_map (facts_of objs e.ground.binding) (required (action D e.ground.action) e.moment c)
+required_facts D objs e c = flat_map (facts_of objs e.act.binding) (required (action D e.act.action) e.moment c)
 
 -- the facts of its conditions that count for interference: "An end's conditions for interference become its own only"
 abbrev pub guarded_facts : Domain → List Object → Event → Usage → List Fact
@@ -75,8 +75,8 @@ has_moment a End = a.lasting
 unfoldable pub legal : Domain → Event → Bool
 unfolding action
 legal D e =
-    ltb e.ground.action (length D.actions) && has_moment (action D e.ground.action) e.moment
-    && eqb (length e.ground.binding) (action D e.ground.action).vars
+    ltb e.act.action (length D.actions) && has_moment (action D e.act.action) e.moment
+    && eqb (length e.act.binding) (action D e.act.action).vars
 
 -- "A step is a list of different events, perhaps empty."
 unfoldable pub legal_step : Domain → List Event → Bool
@@ -85,7 +85,7 @@ legal_step D es = all (legal D) es && distinct same_event es
 
 -- "a binding of its variables to different objects"
 abbrev pub injective : Event → Bool
-injective e = distinct same_object e.ground.binding
+injective e = distinct same_object e.act.binding
 
 -- ---- allowed steps
 
@@ -95,7 +95,7 @@ is_open_at Start gs g = true
 is_open_at End gs g = elem same_ground g gs
 
 abbrev pub is_open : List GroundAction → Event → Bool
-is_open gs e = is_open_at e.moment gs e.ground
+is_open gs e = is_open_at e.moment gs e.act
 
 -- "every event's conditions hold"; "Its over-all conditions must still hold in the state the step is taken from"
 unfoldable pub conditions_hold : Domain → List Object → List Fact → Event → Bool
@@ -169,7 +169,7 @@ close_at End g gs = close_one g gs
 
 abbrev pub close_all : List Event → List GroundAction → List GroundAction
 close_all [] gs = gs
-close_all (e ∷ es) gs = close_all es (close_at e.moment e.ground gs)
+close_all (e ∷ es) gs = close_all es (close_at e.moment e.act gs)
 
 -- "starts join it": those of lasting actions
 abbrev pub opens : Moment → Action → Bool
@@ -178,7 +178,7 @@ opens End a = false
 
 abbrev pub opened_by : Domain → List Event → List GroundAction
 opened_by D [] = []
-opened_by D (e ∷ es) = keep_if (opens e.moment (action D e.ground.action)) e.ground (opened_by D es)
+opened_by D (e ∷ es) = keep_if (opens e.moment (action D e.act.action)) e.act (opened_by D es)
 
 -- "Afterwards: .."
 unfoldable pub next : Domain → List Object → State → List Event → State

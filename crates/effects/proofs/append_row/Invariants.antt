@@ -1,6 +1,6 @@
 -- `append_row` meets its contract: after i turns the first i bytes of the row are written. Assumes nothing.
 use mathlib.Core.Path.{◌≡◌}
-use Prim.Native.Nat.{◌*◌, ◌-◌, ◌≤◌}
+use Prim.Native.Nat.{◌*◌, ◌≤◌}
 use lib.Seq.{paste}
 use Rattle.effects.proofs.append_row.Given as goal
 

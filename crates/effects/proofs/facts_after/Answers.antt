@@ -17,21 +17,21 @@ pub step_effects-m-requires : goal.step_effects-m-requires
 step_effects-m-requires c =
     let a = c.args in
     let p = c.requires in
-    let ground = ground_in a.total (literals_in a.scratch.now) in
+    let act = ground_in a.total (literals_in a.scratch.now) in
     let size = length_ground (literals_in a.scratch.now) a.total in
     let total = p.total in
-    let t = two_few 4 3 (λ e. omega arith) ground in
+    let t = two_few 4 3 (λ e. omega arith) act in
     record { scratch = p.scratch; total = total; room = omega arith }
 
 pub step_effects-end-requires : goal.step_effects-end-requires
 step_effects-end-requires c =
     let a = c.args in
     let p = c.requires in
-    let ground = ground_in a.total (literals_in a.scratch.now) in
+    let act = ground_in a.total (literals_in a.scratch.now) in
     let size = length_ground (literals_in a.scratch.now) a.total in
     let total = p.total in
     let first = c.step_effects-m in
-    let t = two_few 4 3 (λ e. omega arith) ground in
+    let t = two_few 4 3 (λ e. omega arith) act in
     let m = first.ensures.count in
     let k = ap (λ (t : List ℕ). length (rows_of_usage 3 (ground_in a.total t))) first.ensures.literals in
     record { scratch = first.auto.scratch ∙ p.scratch; total = total; room = omega arith }
@@ -41,12 +41,12 @@ keep_rows-kept-requires c =
     let back8 = c in
     let a = back8.args in
     let p = back8.requires in
-    let ground = ground_in a.total (literals_in a.scratch.now) in
+    let act = ground_in a.total (literals_in a.scratch.now) in
     let size = length_ground (literals_in a.scratch.now) a.total in
     let total = p.total in
     let first = back8.step_effects-m in
     let then = c.step_effects-end in
-    let T = told ground (ground_in a.total (literals_in first.new.scratch)) first.result then.result (effects_in first.new.scratch)
+    let T = told act (ground_in a.total (literals_in first.new.scratch)) first.result then.result (effects_in first.new.scratch)
     (effects_in then.new.scratch) (omega arith) (ap (ground_in a.total) first.ensures.literals) first.ensures.count first.ensures.rows
     then.ensures.count then.ensures.rows in
     let order = T.order in
@@ -59,12 +59,12 @@ overflow_sub-end c =
     let back16 = back8 in
     let a = back16.args in
     let p = back16.requires in
-    let ground = ground_in a.total (literals_in a.scratch.now) in
+    let act = ground_in a.total (literals_in a.scratch.now) in
     let size = length_ground (literals_in a.scratch.now) a.total in
     let total = p.total in
     let first = back8.step_effects-m in
     let then = back8.step_effects-end in
-    let T = told ground (ground_in a.total (literals_in first.new.scratch)) first.result then.result (effects_in first.new.scratch)
+    let T = told act (ground_in a.total (literals_in first.new.scratch)) first.result then.result (effects_in first.new.scratch)
     (effects_in then.new.scratch) (omega arith) (ap (ground_in a.total) first.ensures.literals) first.ensures.count first.ensures.rows
     then.ensures.count then.ensures.rows in
     let order = T.order in
@@ -77,12 +77,12 @@ join_rows-facts-requires c =
     let back16 = back8 in
     let a = back16.args in
     let p = back16.requires in
-    let ground = ground_in a.total (literals_in a.scratch.now) in
+    let act = ground_in a.total (literals_in a.scratch.now) in
     let size = length_ground (literals_in a.scratch.now) a.total in
     let total = p.total in
     let first = back8.step_effects-m in
     let then = back8.step_effects-end in
-    let T = told ground (ground_in a.total (literals_in first.new.scratch)) first.result then.result (effects_in first.new.scratch)
+    let T = told act (ground_in a.total (literals_in first.new.scratch)) first.result then.result (effects_in first.new.scratch)
     (effects_in then.new.scratch) (omega arith) (ap (ground_in a.total) first.ensures.literals) first.ensures.count first.ensures.rows
     then.ensures.count then.ensures.rows in
     let order = T.order in
@@ -99,12 +99,12 @@ returns c =
     let back16 = back8 in
     let a = back16.args in
     let p = back16.requires in
-    let ground = ground_in a.total (literals_in a.scratch.now) in
+    let act = ground_in a.total (literals_in a.scratch.now) in
     let size = length_ground (literals_in a.scratch.now) a.total in
     let total = p.total in
     let first = back16.step_effects-m in
     let then = back8.step_effects-end in
-    let T = told ground (ground_in a.total (literals_in first.new.scratch)) first.result then.result (effects_in first.new.scratch)
+    let T = told act (ground_in a.total (literals_in first.new.scratch)) first.result then.result (effects_in first.new.scratch)
     (effects_in then.new.scratch) (omega arith) (ap (ground_in a.total) first.ensures.literals) first.ensures.count first.ensures.rows
     then.ensures.count then.ensures.rows in
     let order = T.order in

@@ -22,11 +22,16 @@ returns-then-is_held c =
     let l = p.scratch in
     let w : work_bytes ≤ length a.scratch.now = omega arith in
     let t : Indexed a.head.now a.index.now rows → SizedRow a.head.now (take 8 (drop a.at a.scratch.now)) → has_row c.row_at-row.result rows ≡ true
-    = λ I b. sym (c.is_held.ensures a.head.now I (sized_as a.head.now e b)) ∙ c.if-is_held.true in record { few = (omega arith, omega arith); joined = λ I b. record {
-          count = there_count a.n a.scratch.now g w e (t I b);
-          bytes = there_rows a.n a.scratch.now g w e (t I b);
-          indexed = λ q. there_indexed rows e (t I b) I;
-        }; beside = refl; others = refl }
+    = λ I b. sym (c.is_held.ensures a.head.now I (sized_as a.head.now e b)) ∙ c.if-is_held.true in record {
+      few = (omega arith, omega arith);
+      joined = λ I b. record {
+        count = there_count a.n a.scratch.now g w e (t I b);
+        bytes = there_rows a.n a.scratch.now g w e (t I b);
+        indexed = λ q. there_indexed rows e (t I b) I;
+      };
+      beside = refl;
+      others = refl;
+    }
 
 pub returns-then-n-ge-MAX_FACTS : goal.returns-then-n-ge-MAX_FACTS
 returns-then-n-ge-MAX_FACTS c =
@@ -42,11 +47,16 @@ returns-then-n-ge-MAX_FACTS c =
     let f : 1024 ≤ a.n = c.if-n-ge-MAX_FACTS.true in
     let t : Indexed a.head.now a.index.now rows → SizedRow a.head.now (take 8 (drop a.at a.scratch.now)) → has_row
     row-at.result rows ≡ false
-    = λ I b. sym (c.is_held.ensures a.head.now I (sized_as a.head.now e b)) ∙ c.if-is_held.false in record { few = (omega arith, omega arith); joined = λ I b. record {
-          count = full_count a.n a.scratch.now g w e (t I b) f;
-          bytes = full_rows a.n a.scratch.now g w e (t I b) f;
-          indexed = λ q. absurd (omega arith);
-        }; beside = refl; others = refl }
+    = λ I b. sym (c.is_held.ensures a.head.now I (sized_as a.head.now e b)) ∙ c.if-is_held.false in record {
+      few = (omega arith, omega arith);
+      joined = λ I b. record {
+        count = full_count a.n a.scratch.now g w e (t I b) f;
+        bytes = full_rows a.n a.scratch.now g w e (t I b) f;
+        indexed = λ q. absurd (omega arith);
+      };
+      beside = refl;
+      others = refl;
+    }
 
 pub returns : goal.returns
 returns c =
@@ -64,8 +74,13 @@ returns c =
     let v = c.enter.ensures in
     let t : Indexed a.head.now a.index.now rows → SizedRow a.head.now (take 8 (drop a.at a.scratch.now)) → has_row
     row-at.result rows ≡ false
-    = λ I b. sym (back8.is_held.ensures a.head.now I (sized_as a.head.now e b)) ∙ back8.if-is_held.false in record { few = (omega arith, omega arith); joined = λ I b. record {
-          count = new_count a.n a.scratch.now g w e (t I b) f;
-          bytes = new_rows_lem a.n a.scratch.now g w e (t I b) f append-row.ensures;
-          indexed = λ q. new_indexed rows e (t I b) (v.indexed rows I b);
-        }; beside = v.beside; others = row_others a.n a.scratch.now row-at.result (omega arith) (search rules) f append-row.ensures }
+    = λ I b. sym (back8.is_held.ensures a.head.now I (sized_as a.head.now e b)) ∙ back8.if-is_held.false in record {
+      few = (omega arith, omega arith);
+      joined = λ I b. record {
+        count = new_count a.n a.scratch.now g w e (t I b) f;
+        bytes = new_rows_lem a.n a.scratch.now g w e (t I b) f append-row.ensures;
+        indexed = λ q. new_indexed rows e (t I b) (v.indexed rows I b);
+      };
+      beside = v.beside;
+      others = row_others a.n a.scratch.now row-at.result (omega arith) (search rules) f append-row.ensures;
+    }

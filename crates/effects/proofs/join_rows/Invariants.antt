@@ -1,5 +1,5 @@
 -- `join_rows` meets its contract: after j turns the first j rows have joined. Assumes nothing.
-use Prim.Native.Nat.{◌-◌, ◌*◌}
+use Prim.Native.Nat.{◌*◌}
 use lib.ListN.{drop}
 use Rattle.effects.specs.Held.{effects_in}
 use Rattle.effects.proofs.IndexedRows.{Joining}

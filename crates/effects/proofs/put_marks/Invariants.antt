@@ -1,7 +1,6 @@
 -- `put_marks` meets its contract: after j turns the first j rows are marked. Assumes nothing.
 use mathlib.Core.Path.{◌≡◌}
-use mathlib.Core.List.Memᴰ
-use Prim.Native.Nat.{◌-◌, ◌≤◌}
+use Prim.Native.Nat.{◌≤◌}
 use lib.ListN.{length}
 use Rattle.literals.specs.Held.{rows_in}
 use Rattle.effects.specs.Held.{Marked}

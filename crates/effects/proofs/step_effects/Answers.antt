@@ -1,6 +1,6 @@
 use mathlib.Core.Path.{◌≡◌, refl, sym, ap, ◌∙◌, subst}
 use mathlib.Core.List.{List, [], ◌∷◌, ◌++◌}
-use Prim.Native.Nat.{ℕ, ◌+◌, ◌-◌, ◌≤◌}
+use Prim.Native.Nat.{ℕ, ◌+◌, ◌≤◌}
 use native.Mathlib.Omega.{arith}
 use lib.ListN.{length}
 use Rattle.records.specs.Memory.{over}
@@ -30,8 +30,12 @@ put_effect-n-requires c =
     let old = literals_in a.scratch.now in
     let reach = v.reach in
     let room = effects_room a.usage old (literals_length a.scratch.now p.scratch) [] a.at a.total l.i l.n (omega arith)
-    p.room v.count in record { scratch = v.sized ∙ p.scratch; literal = omega arith; room = subst (λ (t : List ℕ). l.n + length (rows_of_usage a.usage (ground_at t l.i ∷ [])) ≤ max_ground) (sym
-            v.literals) room }
+    p.room v.count in record {
+      scratch = v.sized ∙ p.scratch;
+      literal = omega arith;
+      room = subst (λ (t : List ℕ). l.n + length (rows_of_usage a.usage (ground_at t l.i ∷ [])) ≤ max_ground) (sym
+          v.literals) room;
+    }
 
 pub loop-i-preserved : goal.loop-i-preserved
 loop-i-preserved c =
@@ -69,5 +73,9 @@ returns c =
     let v = l.invariant in
     let reach = v.reach in
     let lits = literals_in a.scratch.now in
-    let e : l.i ≡ a.total = omega arith in record { count = v.count ∙ ap (λ (i : ℕ). a.at + length (rows_of_usage a.usage (ground_in i lits))) e; rows = filled_rows v.filled
-            ∙ ap (λ (i : ℕ). rows_in a.at (effects_in a.scratch.now) ++ rows_of_usage a.usage (ground_in i lits)) e; literals = v.literals }
+    let e : l.i ≡ a.total = omega arith in record {
+      count = v.count ∙ ap (λ (i : ℕ). a.at + length (rows_of_usage a.usage (ground_in i lits))) e;
+      rows = filled_rows v.filled
+          ∙ ap (λ (i : ℕ). rows_in a.at (effects_in a.scratch.now) ++ rows_of_usage a.usage (ground_in i lits)) e;
+      literals = v.literals;
+    }

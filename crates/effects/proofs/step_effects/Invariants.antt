@@ -1,5 +1,4 @@
 -- `step_effects` meets its contract: after i turns those of the first i ground literals are written. Assumes nothing.
-use Prim.Native.Nat.{◌-◌}
 use Rattle.effects.proofs.EffectRows.{Selecting}
 use Rattle.effects.proofs.step_effects.Given as goal
 

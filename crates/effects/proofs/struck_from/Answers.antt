@@ -1,10 +1,7 @@
 use mathlib.Core.Path.{sym, ◌∙◌}
-use mathlib.Core.Bool.{false}
-use Prim.Native.Nat.{◌-◌}
 use native.Mathlib.Omega.{arith}
 use Rattle.literals.specs.Held.{rows_in}
 use Rattle.literals.proofs.KeyRows.{length_rows}
-use Rattle.effects.specs.Held.{is_struck}
 use Rattle.effects.proofs.KeptRuns.{others_more, all_gone}
 use Rattle.effects.proofs.struck_from.Goals as goal
 

@@ -35,6 +35,6 @@ returns c =
           (instance_rows (keys_in x.head.now) (component_rows_in x.head.now) (take 8 (drop 0 bound-row.result)))) w.result
           w.ensures; counts = λ D g y class A G ge sized re h m.
           let k = c.wide-k.ensures.number in
-          belongs_is g A G y sized class h (λ z. c.if-k-eq0.false (k ∙ m ∙ z)) x.ground.now _
+          belongs_is g A G y sized class h (λ z. c.if-k-eq0.false (k ∙ m ∙ z)) x.act.now _
           bound-row.result w.result ge re
-          (bound-row.ensures ∙ ap (λ (j : ℕ). bound_row x.head.now x.ground.now (take 8 (drop (8 * (j - 1)) x.rows.now))) (k ∙ m)) w.ensures }
+          (bound-row.ensures ∙ ap (λ (j : ℕ). bound_row x.head.now x.act.now (take 8 (drop (8 * (j - 1)) x.rows.now))) (k ∙ m)) w.ensures }

@@ -35,7 +35,7 @@ journeys_of-requires c =
     let back8 = c in
     let F = c.rows_of-span.ensures.fits in
     let o = F.order in
-    let few = F.few in record { rowed = part_length _ _ _ o F.room; literals = omega arith; ground = back8.requires }
+    let few = F.few in record { rowed = part_length _ _ _ o F.room; literals = omega arith; act = back8.requires }
 
 pub returns : goal.returns
 returns c =

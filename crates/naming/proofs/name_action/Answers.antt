@@ -24,6 +24,11 @@ returns c =
     let number-classes = back8.number_classes-classes in
     let k = number-classes.ensures.few in
     let t = number-classes.ensures.classes in
-    let w = c.name_classes-naming.ensures in record { rows = omega arith; classes = omega arith; numbers = λ D x A. (t D x A).1; named = λ D x A l before old i L.
-              let N = w.named before old D x i L A l (t D x A).1 (t D x A).0 in
-              ((t D x A).0, N.summed ∙ any_number D x i, N.listed) }
+    let w = c.name_classes-naming.ensures in record {
+      rows = omega arith;
+      classes = omega arith;
+      numbers = λ D x A. (t D x A).1;
+      named = λ D x A l before old i L.
+          let N = w.named before old D x i L A l (t D x A).1 (t D x A).0 in
+          ((t D x A).0, N.summed ∙ any_number D x i, N.listed);
+    }

@@ -1,6 +1,6 @@
 use mathlib.Core.Path.{refl, sym, ap, ◌∙◌}
 use mathlib.Core.List.{List, ◌++◌}
-use Prim.Native.Nat.{ℕ, ◌-◌, ◌*◌, ◌≤◌, ◌<◌}
+use Prim.Native.Nat.{ℕ, ◌*◌, ◌≤◌, ◌<◌}
 use native.Mathlib.Omega.{arith}
 use lib.ListN.{length, set, take}
 use borrow.Rule.Slice.PartMut.{Post-is}
@@ -164,5 +164,9 @@ returns c =
     let l = c.loop-i in
     let n = c.actions_in-i-end.ensures in
     let H = back8.requires.read.1 in
-    let m = H.says.actions in record { rows = names_few H l.i _ (omega arith) (l.invariant.few _ H); numbers = λ D H wf. let m = H.says.actions in numbered_all D l.i _ (omega arith) (l.invariant.numbered D H wf); named = λ D H wf z. let m = H.says.actions in
-            naming_done D l.i (omega arith) (l.invariant.listed D H wf) (l.invariant.noted D H wf) (l.invariant.counted D H wf z) }
+    let m = H.says.actions in record {
+      rows = names_few H l.i _ (omega arith) (l.invariant.few _ H);
+      numbers = λ D H wf. let m = H.says.actions in numbered_all D l.i _ (omega arith) (l.invariant.numbered D H wf);
+      named = λ D H wf z. let m = H.says.actions in
+          naming_done D l.i (omega arith) (l.invariant.listed D H wf) (l.invariant.noted D H wf) (l.invariant.counted D H wf z);
+    }

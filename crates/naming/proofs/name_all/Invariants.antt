@@ -1,5 +1,4 @@
 -- `name_all` meets its contract. The loop's invariant is `InActions` of proofs/NamedRows; the measure is how many actions are left. Assumes nothing.
-use Prim.Native.Nat.{◌-◌}
 use Rattle.naming.proofs.NamedRows.{InActions}
 use Rattle.naming.proofs.name_all.Given as goal
 

@@ -37,11 +37,14 @@ returns-then-lasting c =
     let k = back8.args.class in
     let h : k < 64 = omega arith in
     let p = back8.requires in
-    let first = c.sole_in-first.ensures ∙ p.first k h in record { start = λ D a M f. c.name_at-start.ensures D a Start M f (asked_at_start M k first); end = λ D a M E f t l. (
+    let first = c.sole_in-first.ensures ∙ p.first k h in record {
+      start = λ D a M f. c.name_at-start.ensures D a Start M f (asked_at_start M k first);
+      end = λ D a M E f t l. (
         c.name_at.ensures D a End E.own f (E.reaches k h),
         c.is_journey.ensures D a _ M l
             (c.sole_in-last.ensures ∙ p.last t k h ∙ ap₂ (λ (o d : List ℕ). sole_of o d k) E.own.numbers_are E.own.usages_are) f,
-      ) }
+      );
+    }
 
 pub returns : goal.returns
 returns c =

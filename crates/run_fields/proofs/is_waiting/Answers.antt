@@ -9,12 +9,12 @@ use Rattle.run_fields.specs.Held.{waits_at}
 use Rattle.run_fields.proofs.is_waiting.Goals as goal
 
 pub loop-i-init : goal.loop-i-init
-loop-i-init c = let a = c.args in (omega arith, ap (any (waits_at a.moments.now a.rows.now a.moment a.ground)) (left_all a.count))
+loop-i-init c = let a = c.args in (omega arith, ap (any (waits_at a.moments.now a.rows.now a.moment a.act)) (left_all a.count))
 
 pub waits_at-requires : goal.waits_at-requires
 waits_at-requires c =
     let p = c.requires in
-    let g : length c.args.ground ≡ 17 = search rules in
+    let g : length c.args.act ≡ 17 = search rules in
     record { moment = omega arith; event = omega arith; row = omega arith }
 
 pub returns-then-waits_at : goal.returns-then-waits_at
@@ -30,4 +30,4 @@ loop-i-preserved c =
 pub returns : goal.returns
 returns c =
     let a = c.args in
-    sym (any_end (waits_at a.moments.now a.rows.now a.moment a.ground) a.count c.loop-i.i (omega arith)) ∙ c.loop-i.invariant.1
+    sym (any_end (waits_at a.moments.now a.rows.now a.moment a.act) a.count c.loop-i.i (omega arith)) ∙ c.loop-i.invariant.1

@@ -7,4 +7,4 @@ use Rattle.run_fields.specs.Held.{waits_at}
 use Rattle.run_fields.proofs.is_waiting.Given as goal
 
 abbrev pub invariant-loop-i : goal.invariant-loop-i
-invariant-loop-i l = (l.i ≤ l.count) × (any (waits_at l.moments l.rows l.moment l.ground) (left l.count l.i) ≡ any (waits_at l.moments l.rows l.moment l.ground) (below l.count))
+invariant-loop-i l = (l.i ≤ l.count) × (any (waits_at l.moments l.rows l.moment l.act) (left l.count l.i) ≡ any (waits_at l.moments l.rows l.moment l.act) (below l.count))

@@ -1,5 +1,5 @@
 use mathlib.Core.Path.{◌≡◌, ap, ◌∙◌}
-use Prim.Native.Nat.{ℕ, ◌-◌}
+use Prim.Native.Nat.{ℕ}
 use native.Mathlib.Omega.{arith}
 use borrow.Author.Tests.{eq-eqb, ne_eqb}
 use Rattle.records.specs.Lists.{count_by}
@@ -13,8 +13,9 @@ loop-j-preserved c =
     let a = c.args in
     let l = c.loop-j in
     elim c.if-usages-j-eq1.branch [
-      then-usages-j-eq1 w ↦ let e = count_hit is_condition a.usages.now l.j (eq-eqb _ _ w.if-usages-j-eq1.true) in (omega arith, omega arith, omega arith)
-    | else-usages-j-eq1 w ↦ let e = count_miss is_condition a.usages.now l.j (ne_eqb _ _ w.if-usages-j-eq1.false) in (omega arith, omega arith, omega arith) ]
+      | then-usages-j-eq1 w ↦ let e = count_hit is_condition a.usages.now l.j (eq-eqb _ _ w.if-usages-j-eq1.true) in (omega arith, omega arith, omega arith)
+      | else-usages-j-eq1 w ↦ let e = count_miss is_condition a.usages.now l.j (ne_eqb _ _ w.if-usages-j-eq1.false) in (omega arith, omega arith, omega arith)
+    ]
 
 pub returns : goal.returns
 returns c =

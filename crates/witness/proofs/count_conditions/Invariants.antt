@@ -1,6 +1,6 @@
 -- `count_conditions` meets its contract: after j turns those among the first j are counted. Assumes nothing.
 use mathlib.Core.Path.{◌≡◌}
-use Prim.Native.Nat.{◌-◌, ◌≤◌}
+use Prim.Native.Nat.{◌≤◌}
 use Rattle.records.specs.Lists.{count_by}
 use Rattle.witness.specs.Held.{first_usages, is_condition}
 use Rattle.witness.proofs.count_conditions.Given as goal

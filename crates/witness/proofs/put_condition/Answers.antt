@@ -1,6 +1,5 @@
 use native.Mathlib.Omega.{arith}
 use mathlib.Core.Path.{◌≡◌}
-use Prim.Native.Nat.{◌-◌}
 use lib.ListN.{take, drop}
 use lib.Seq.{paste-zero}
 use Rattle.records.proofs.Memory.{paste_more, paste_length}

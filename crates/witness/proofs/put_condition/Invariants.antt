@@ -1,6 +1,6 @@
 -- `put_condition` meets its contract: after i turns the first i bytes of the fact are written. Assumes nothing.
 use mathlib.Core.Path.{◌≡◌}
-use Prim.Native.Nat.{◌-◌, ◌≤◌}
+use Prim.Native.Nat.{◌≤◌}
 use lib.ListN.{take, drop}
 use lib.Seq.{paste}
 use Rattle.witness.specs.Held.{condition_bytes}

@@ -1,6 +1,6 @@
 -- `put_conditions` meets its contract: after j turns the facts of the true conditions among the first j rows are written. Assumes nothing.
 use mathlib.Core.Path.{◌≡◌}
-use Prim.Native.Nat.{◌-◌, ◌≤◌}
+use Prim.Native.Nat.{◌≤◌}
 use lib.ListN.{length}
 use Rattle.records.specs.Memory.{over}
 use Rattle.witness.proofs.Facts.{conditions_to}

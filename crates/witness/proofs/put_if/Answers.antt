@@ -24,8 +24,11 @@ returns-then-usage-eq1 c =
     let a = back8.args in
     let e : a.usage ≡ 1 = omega arith in
     let q = c.arity_of in
-    let w = c.put_condition in record { written = put_in a.head.now a.rows.now a.out.now a.at a.row a.usage q.result pre.rowed e q.ensures.number w.new.out
-          w.ensures; behind = put_behind a.head.now a.rows.now a.out.now a.at a.row a.usage q.result pre.rowed e q.ensures.number }
+    let w = c.put_condition in record {
+      written = put_in a.head.now a.rows.now a.out.now a.at a.row a.usage q.result pre.rowed e q.ensures.number w.new.out
+          w.ensures;
+      behind = put_behind a.head.now a.rows.now a.out.now a.at a.row a.usage q.result pre.rowed e q.ensures.number;
+    }
 
 pub returns : goal.returns
 returns c =

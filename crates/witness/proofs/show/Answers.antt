@@ -1,6 +1,5 @@
 -- `show` meets its contract. Assumes nothing.
 use mathlib.Core.Path.{◌∙◌}
-use Prim.Native.Nat.{◌-◌}
 use native.Mathlib.Omega.{arith}
 use Rattle.literals.specs.Domain.{action}
 use Rattle.classes.proofs.Tables.{numbers_part}

@@ -1,7 +1,6 @@
 use mathlib.Core.Path.{refl, sym, ◌∙◌}
-use Prim.Native.Nat.{◌-◌, ◌<◌}
+use Prim.Native.Nat.{◌<◌}
 use native.Mathlib.Omega.{arith}
-use Rattle.records.specs.Lists.{all}
 use Rattle.records.proofs.Lists.{all_hit, all_miss, all_end}
 use Rattle.literals.specs.Held.{rows_in}
 use Rattle.events.specs.Held.{ground_in}

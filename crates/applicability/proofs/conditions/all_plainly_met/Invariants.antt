@@ -1,7 +1,7 @@
 -- `all_plainly_met` meets its contract: none before i fails, so the test is that of those from i on. Assumes nothing.
 use mathlib.Core.Path.{◌≡◌}
 use mathlib.Core.List.{List}
-use Prim.Native.Nat.{ℕ, ◌-◌, ◌≤◌}
+use Prim.Native.Nat.{ℕ, ◌≤◌}
 use lib.ListN.{drop}
 use Rattle.records.specs.Lists.{all}
 use Rattle.literals.specs.Held.{rows_in}

@@ -1,6 +1,5 @@
 -- `any_asks_pattern` meets its contract: none before i is one, so the test is that of those from i on. Assumes nothing.
 use mathlib.Core.Path.{◌≡◌}
-use Prim.Native.Nat.{◌-◌}
 use lib.ListN.{drop}
 use Rattle.records.specs.Lists.{any}
 use Rattle.events.specs.Held.{ground_in}

@@ -1,5 +1,4 @@
 use mathlib.Core.Path.{sym, ◌∙◌}
-use Prim.Native.Nat.{◌-◌}
 use native.Mathlib.Omega.{arith}
 use Rattle.literals.proofs.Rows.{any_first, any_hit, any_miss, any_end}
 use Rattle.applicability.proofs.conditions.any_forbidden.Invariants.{any_forbids}

@@ -1,6 +1,5 @@
 -- `is_forbidden` meets its contract: none before i is one, so the test is that of those from i on. Assumes nothing.
 use mathlib.Core.Path.{◌≡◌}
-use Prim.Native.Nat.{◌-◌}
 use lib.ListN.{take, drop}
 use Rattle.records.specs.Lists.{any}
 use Rattle.events.specs.Held.{ground_in}

@@ -1,5 +1,4 @@
 use mathlib.Core.Path.{refl, sym, ◌∙◌}
-use Prim.Native.Nat.{◌-◌}
 use native.Mathlib.Omega.{arith}
 use Rattle.records.proofs.Lists.{all_hit, all_miss, all_end}
 use Rattle.verdict.specs.Machine.{over_all_hold}

@@ -1,5 +1,4 @@
 -- `open_met` meets its contract: each entry before i is met, so the test is that of the entries from i on. Assumes nothing.
-use Prim.Native.Nat.{◌-◌}
 use Rattle.applicability.proofs.Asked.{InEntries}
 use Rattle.applicability.proofs.conditions.open_met.Given as goal
 

@@ -1,6 +1,6 @@
 -- `put_words` meets its contract: after i turns the words of the first i are put. Assumes nothing.
 use mathlib.Core.Path.{◌≡◌}
-use Prim.Native.Nat.{◌-◌, ◌≤◌}
+use Prim.Native.Nat.{◌≤◌}
 use lib.ListN.{length}
 use Rattle.applicability.specs.Held.{WordsOf}
 use Rattle.applicability.proofs.interference.put_words.Given as goal

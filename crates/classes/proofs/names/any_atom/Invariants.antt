@@ -1,6 +1,5 @@
 -- `any_atom` meets its contract: no row before j is one, so the test is that of the rows left. Assumes nothing.
 use mathlib.Core.Path.{◌≡◌}
-use Prim.Native.Nat.{◌-◌}
 use lib.ListN.{length}
 use Rattle.records.specs.Lists.{any}
 use Rattle.classes.specs.Held.{is_same_at, same_in}

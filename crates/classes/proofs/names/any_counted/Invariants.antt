@@ -1,6 +1,6 @@
 -- `any_counted` meets its contract: no label before i is FF, so the test is that of the labels left. Assumes nothing.
 use mathlib.Core.Path.{◌≡◌}
-use Prim.Native.Nat.{◌-◌, ◌≤◌}
+use Prim.Native.Nat.{◌≤◌}
 use Rattle.records.specs.Lists.{any, below}
 use Rattle.literals.proofs.Indices.{left}
 use Rattle.classes.specs.Held.{counted_at}

@@ -1,6 +1,5 @@
 -- `any_lasting` meets its contract: no row before j lasts, so the test is that of the rows left. Assumes nothing.
 use mathlib.Core.Path.{◌≡◌}
-use Prim.Native.Nat.{◌-◌}
 use lib.ListN.{length}
 use Rattle.records.specs.Lists.{any, below}
 use Rattle.classes.specs.Held.{lasts_at}

@@ -1,6 +1,6 @@
 -- `clears` meets its contract: the labels before i have FF beside FF, so the test is that of the labels left. Assumes nothing.
 use mathlib.Core.Path.{◌≡◌}
-use Prim.Native.Nat.{◌-◌, ◌≤◌}
+use Prim.Native.Nat.{◌≤◌}
 use Rattle.records.specs.Lists.{all, below}
 use Rattle.literals.proofs.Indices.{left}
 use Rattle.classes.specs.Held.{cleared_at}

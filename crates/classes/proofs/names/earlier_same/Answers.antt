@@ -1,6 +1,5 @@
 use native.Mathlib.Omega.{arith}
 use mathlib.Core.Path.{sym, ap, ◌∙◌}
-use Prim.Native.Nat.{◌-◌}
 use Rattle.records.specs.Lists.{any}
 use Rattle.classes.specs.Held.{says_at}
 use Rattle.literals.proofs.Indices.{left_all, any_hit, any_miss, any_end}

@@ -1,6 +1,5 @@
 -- `earlier_same` meets its contract: no row before i says the same, so the test is that of the rows left. Assumes nothing.
 use mathlib.Core.Path.{◌≡◌}
-use Prim.Native.Nat.{◌-◌}
 use Rattle.records.specs.Lists.{any, below}
 use Rattle.classes.specs.Held.{says_at}
 use Rattle.literals.proofs.Indices.{left}

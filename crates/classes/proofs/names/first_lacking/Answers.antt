@@ -1,7 +1,7 @@
 use native.Mathlib.Omega.{arith}
 use mathlib.Core.Path.{sym, ap, ◌∙◌}
 use mathlib.Core.Bool.{not}
-use Prim.Native.Nat.{ℕ, ◌-◌}
+use Prim.Native.Nat.{ℕ}
 use Rattle.records.specs.Lists.{position, below}
 use Rattle.classes.specs.Held.{lacking_at}
 use Rattle.literals.proofs.Indices.{left_all, position_hit, position_miss, position_end}

@@ -1,6 +1,5 @@
 -- `is_deleted` meets its contract: no row before j is such a delete, so the test is that of the rows left. Assumes nothing.
 use mathlib.Core.Path.{◌≡◌}
-use Prim.Native.Nat.{◌-◌}
 use lib.ListN.{length}
 use Rattle.records.specs.Lists.{any}
 use Rattle.classes.specs.Held.{is_delete_at, deleted_in}

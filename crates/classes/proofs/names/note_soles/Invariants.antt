@@ -1,7 +1,7 @@
 -- `note_soles` meets its contract: after j turns the first j literals are noted. Assumes nothing.
 use mathlib.Core.Path.{◌≡◌}
 use mathlib.Core.List.{[]}
-use Prim.Native.Nat.{◌-◌, ◌≤◌}
+use Prim.Native.Nat.{◌≤◌}
 use lib.ListN.{length}
 use Rattle.literals.specs.Held.{pad}
 use Rattle.classes.proofs.Soles.{Tallied}

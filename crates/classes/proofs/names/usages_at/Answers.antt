@@ -1,7 +1,7 @@
 use native.Mathlib.Omega.{arith}
 use mathlib.Core.Path.{◌≡◌, ap, ◌∙◌}
 use mathlib.Core.List.{[], map}
-use Prim.Native.Nat.{ℕ, ◌-◌}
+use Prim.Native.Nat.{ℕ}
 use Rattle.records.specs.Lists.{below}
 use Rattle.literals.specs.Held.{pad}
 use Rattle.classes.specs.Held.{usage_in}
@@ -26,7 +26,10 @@ returns c =
     let j : l.j ≡ s.args.n = omega arith in
     let bytes : (s.args.usages.now ≡ pad 64 [] → l.usages ≡ pad 64
     (map (usage_in s.args.wide s.args.rows.now s.args.m) (below s.args.n))) = λ z. l.invariant.1 z
-    ∙ ap (λ (k : ℕ). pad 64 (map (usage_in s.args.wide s.args.rows.now s.args.m) (below k))) j in record { bytes = bytes; usages = λ D a head A z.
+    ∙ ap (λ (k : ℕ). pad 64 (map (usage_in s.args.wide s.args.rows.now s.args.m) (below k))) j in record {
+      bytes = bytes;
+      usages = λ D a head A z.
           bytes z
           ∙ ap (pad 64) (usages_held s.args.wide s.args.m s.args.rows.now s.args.n A.says.bounded A.listed
-          A.apart A.literals s.requires.rowed) }
+          A.apart A.literals s.requires.rowed);
+    }

@@ -1,7 +1,7 @@
 -- `usages_at` meets its contract: the usages of the rows before j stand in the memory. Assumes nothing.
 use mathlib.Core.Path.{◌≡◌}
 use mathlib.Core.List.{[], map}
-use Prim.Native.Nat.{◌-◌, ◌≤◌}
+use Prim.Native.Nat.{◌≤◌}
 use Rattle.records.specs.Lists.{below}
 use Rattle.literals.specs.Held.{pad}
 use Rattle.classes.specs.Held.{usage_in}

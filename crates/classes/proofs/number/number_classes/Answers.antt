@@ -1,4 +1,3 @@
-use Prim.Native.Nat.{◌-◌}
 use native.Mathlib.Omega.{arith}
 use Rattle.classes.proofs.Numbering.{so_far_none, so_far_more, so_far_all}
 use Rattle.classes.proofs.number.number_classes.Goals as goal
@@ -39,5 +38,8 @@ returns c =
     let p = c.requires in
     let l = c.loop-j in
     let w = l.invariant.few in
-    let r = l.invariant.reach in record { few = omega arith; classes = so_far_all a.head.now a.rows.now a.numbers.now l.numbers a.words.now l.words l.count l.j
-          p.rowed l.invariant (omega arith) }
+    let r = l.invariant.reach in record {
+      few = omega arith;
+      classes = so_far_all a.head.now a.rows.now a.numbers.now l.numbers a.words.now l.words l.count l.j
+          p.rowed l.invariant (omega arith);
+    }

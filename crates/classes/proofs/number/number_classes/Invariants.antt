@@ -1,5 +1,4 @@
 -- `number_classes` meets its contract: after j turns `words` has the classes of the first j literals, and `numbers` their numbers. Assumes nothing.
-use Prim.Native.Nat.{◌-◌}
 use Rattle.classes.proofs.Numbering.{SoFar}
 use Rattle.classes.proofs.number.number_classes.Given as goal
 

@@ -10,10 +10,10 @@ use Rattle.events.proofs.facts.bound_argument.Goals as goal
 pub returns-in-Variable : goal.returns-in-Variable
 returns-in-Variable c =
     let a = c.args in
-    c.object_of-o.ensures ∙ sym (ap (λ (x : Argument). bound_argument a.ground.now (argument_number x)) c.in-Variable.is)
+    c.object_of-o.ensures ∙ sym (ap (λ (x : Argument). bound_argument a.act.now (argument_number x)) c.in-Variable.is)
 
 pub returns-in-Every : goal.returns-in-Every
 returns-in-Every c =
     let a = c.args in
-    argument_stays a.ground.now 255 (omega arith)
-    ∙ sym (ap (λ (x : Argument). bound_argument a.ground.now (argument_number x)) c.in-Every.is)
+    argument_stays a.act.now 255 (omega arith)
+    ∙ sym (ap (λ (x : Argument). bound_argument a.act.now (argument_number x)) c.in-Every.is)

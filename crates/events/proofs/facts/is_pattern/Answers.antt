@@ -1,5 +1,5 @@
 use mathlib.Core.Path.{sym, ap, ◌∙◌}
-use Prim.Native.Nat.{ℕ, ◌+◌, ◌-◌}
+use Prim.Native.Nat.{ℕ, ◌+◌}
 use native.Mathlib.Omega.{arith}
 use Rattle.events.proofs.Meeting.{pattern_first, pattern_end, pattern_out, pattern_hit, pattern_miss}
 use Rattle.events.proofs.facts.is_pattern.Goals as goal

@@ -13,12 +13,16 @@ use Rattle.events.proofs.GroundLiterals.{rows_few, held_ground}
 use Rattle.events.proofs.grounding.ground_action.Goals as goal
 
 pub returns-then-actions_in-action : goal.returns-then-actions_in-action
-returns-then-actions_in-action c = record { few = (omega arith, omega arith); literals = λ D g H F f.
-        let a = c.args in
-        let w = c.wide-action.ensures.number in
-        let n = c.actions_in.ensures.number in
-        let t = c.if-actions_in-action.true in
-        absurd (ground_listed H g F a.ground.now f (omega arith)); counts = refl }
+returns-then-actions_in-action c = record {
+  few = (omega arith, omega arith);
+  literals = λ D g H F f.
+      let a = c.args in
+      let w = c.wide-action.ensures.number in
+      let n = c.actions_in.ensures.number in
+      let t = c.if-actions_in-action.true in
+      absurd (ground_listed H g F a.act.now f (omega arith));
+  counts = refl;
+}
 
 pub overflow_mul-from : goal.overflow_mul-from
 overflow_mul-from c = let g = c.rows_of-span.ensures.fits.room in let o = c.rows_of-span.ensures.fits.order in search rules
@@ -62,12 +66,16 @@ returns c =
     let from = s.result.from in
     let to = s.result.to in
     let part = take (8 * to - 8 * from) (drop (8 * from) a.table.now) in
-    let k = rows_few a.time a.head.now a.ground.now part (to - from) a.n a.memory.now _
+    let k = rows_few a.time a.head.now a.act.now part (to - from) a.n a.memory.now _
     ground-literals.result r.literals in
     let below = k.0 in
-    let few = k.1 in record { few = (omega arith, omega arith); literals = λ D g H F f.
-            let w : wide.result ≡ g.action = wide.ensures.number
-            ∙ ap (λ (x : List ℕ). get_or x 0 0) f in
-            let h : g.action < length D.actions = F.listed in
-            let S = subst (λ (i : ℕ). SpanOf D i a.table.now s.result) w (s.ensures.rows D H (omega arith)) in
-            held_ground H g F a.time a.ground.now f s.result S (ground_in a.n a.memory.now) r.literals; counts = r.counts }
+    let few = k.1 in record {
+      few = (omega arith, omega arith);
+      literals = λ D g H F f.
+          let w : wide.result ≡ g.action = wide.ensures.number
+          ∙ ap (λ (x : List ℕ). get_or x 0 0) f in
+          let h : g.action < length D.actions = F.listed in
+          let S = subst (λ (i : ℕ). SpanOf D i a.table.now s.result) w (s.ensures.rows D H (omega arith)) in
+          held_ground H g F a.time a.act.now f s.result S (ground_in a.n a.memory.now) r.literals;
+      counts = r.counts;
+    }

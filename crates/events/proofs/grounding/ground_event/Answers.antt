@@ -13,6 +13,10 @@ returns c =
     let back8 = c in
     let a = back8.args in
     let t = c.time_at.ensures in
-    let r = c.ground_action.ensures in record { few = r.few; literals = λ D e H F m f.
-            r.literals D e.ground H F (part_ground a.events.now (17 * a.i) ∙ f)
-            ∙ ap (λ (u : Time). ground_in a.n a.memory.now ++ ground_literals D u e.ground) (time_back _ _ e.moment t m); counts = r.counts }
+    let r = c.ground_action.ensures in record {
+      few = r.few;
+      literals = λ D e H F m f.
+          r.literals D e.act H F (part_ground a.events.now (17 * a.i) ∙ f)
+          ∙ ap (λ (u : Time). ground_in a.n a.memory.now ++ ground_literals D u e.act) (time_back _ _ e.moment t m);
+      counts = r.counts;
+    }

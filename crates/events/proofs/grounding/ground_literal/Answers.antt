@@ -9,7 +9,7 @@ returns-then-usage-eq0 c =
     let a = c.args in
     let first = ground_in a.n a.memory.now in
     let e = c.usage_for-usage.ensures in
-    record { literals = row_none a.time a.head.now a.ground.now a.rows.now a.row _ e first c.if-usage-eq0.true; counts = refl }
+    record { literals = row_none a.time a.head.now a.act.now a.rows.now a.row _ e first c.if-usage-eq0.true; counts = refl }
 
 pub returns : goal.returns
 returns c =
@@ -18,5 +18,8 @@ returns c =
     let first = ground_in a.n a.memory.now in
     let e = c.usage_for-usage.ensures in
     let row = c.bound_row in
-    let put = c.put_literal.ensures in record { literals = row_one a.time a.head.now a.ground.now a.rows.now a.row _ e first
-          c.if-usage-eq0.false row.result row.ensures put.literals; counts = put.counts }
+    let put = c.put_literal.ensures in record {
+      literals = row_one a.time a.head.now a.act.now a.rows.now a.row _ e first
+          c.if-usage-eq0.false row.result row.ensures put.literals;
+      counts = put.counts;
+    }

@@ -1,6 +1,6 @@
 use mathlib.Core.Path.{◌≡◌, refl, ap, ◌∙◌}
 use mathlib.Core.List.{◌++◌}
-use Prim.Native.Nat.{ℕ, ◌-◌}
+use Prim.Native.Nat.{ℕ}
 use native.Mathlib.Omega.{arith}
 use Rattle.literals.specs.Held.{rows_in}
 use Rattle.events.specs.Held.{row_literals, ground_in}
@@ -14,7 +14,7 @@ loop-i-init c =
     record {
       reach = omega arith;
       sized = refl;
-      literals = rows_begin a.time a.head.now a.ground.now first a.rows.now;
+      literals = rows_begin a.time a.head.now a.act.now first a.rows.now;
       counts = refl;
     }
 
@@ -23,7 +23,7 @@ ground_literal-n-requires c =
     let a = c.args in
     let p = c.requires in
     let l = c.loop-i in
-    let f = (rows_few a.time a.head.now a.ground.now a.rows.now l.i a.at a.memory.now _ l.n
+    let f = (rows_few a.time a.head.now a.act.now a.rows.now l.i a.at a.memory.now _ l.n
     l.invariant.literals).1 in
     let s = l.invariant.sized in
     record { memory = omega arith; room = omega arith; bound = p.bound; literal = omega arith }
@@ -39,7 +39,7 @@ loop-i-preserved c =
     record {
       reach = omega arith;
       sized = ground-literal.auto.memory ∙ l.invariant.sized;
-      literals = rows_more a.time a.head.now a.ground.now first a.rows.now l.i l.invariant.literals r.literals;
+      literals = rows_more a.time a.head.now a.act.now first a.rows.now l.i l.invariant.literals r.literals;
       counts = r.counts ∙ l.invariant.counts;
     }
 
@@ -52,4 +52,4 @@ returns c =
     let l = c.loop-i in
     let g = l.invariant.reach in
     let e : l.i ≡ a.k = omega arith in
-    let first = ground_in a.at a.memory.now in record { literals = l.invariant.literals ∙ ap (λ (i : ℕ). first ++ row_literals a.time a.head.now a.ground.now (rows_in i a.rows.now)) e; counts = l.invariant.counts }
+    let first = ground_in a.at a.memory.now in record { literals = l.invariant.literals ∙ ap (λ (i : ℕ). first ++ row_literals a.time a.head.now a.act.now (rows_in i a.rows.now)) e; counts = l.invariant.counts }

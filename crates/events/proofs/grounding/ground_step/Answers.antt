@@ -9,10 +9,13 @@ use Rattle.events.proofs.GroundLiterals.{laid_none, laid_event, laid_all}
 use Rattle.events.proofs.grounding.ground_step.Goals as goal
 
 pub returns-then-count-gt-MAX_EVENTS : goal.returns-then-count-gt-MAX_EVENTS
-returns-then-count-gt-MAX_EVENTS c = record { few = omega arith; grounded = λ D es H w F h.
+returns-then-count-gt-MAX_EVENTS c = record {
+  few = omega arith;
+  grounded = λ D es H w F h.
       let q = waiting_count es _ w in
       let t = c.if-count-gt-MAX_EVENTS.true in
-      absurd (omega arith) }
+      absurd (omega arith);
+}
 
 pub loop-i-init : goal.loop-i-init
 loop-i-init c = record {
@@ -83,6 +86,9 @@ pub returns : goal.returns
 returns c =
     let l = c.loop-i in
     let k = l.invariant.few in
-    let g = l.invariant.reach in record { few = omega arith; grounded = λ D es H w F h.
+    let g = l.invariant.reach in record {
+      few = omega arith;
+      grounded = λ D es H w F h.
           let q = waiting_count es _ w in
-          record { says = H.says; fit = F; laid = laid_all D es l.i (omega arith) (l.invariant.laid D es H w F) } }
+          record { says = H.says; fit = F; laid = laid_all D es l.i (omega arith) (l.invariant.laid D es H w F) };
+    }

@@ -1,5 +1,4 @@
 -- `ground_step` meets its contract: after i turns those of the first i events are put, and how many each has. Assumes nothing.
-use Prim.Native.Nat.{◌-◌}
 use Rattle.events.proofs.GroundLiterals.{InStep}
 use Rattle.events.proofs.grounding.ground_step.Given as goal
 

@@ -23,14 +23,18 @@ returns-then-joined c =
     let entries = whole_copy (replicate open_bytes 0) (entries_in a.agenda.now) x.new.out
     (sym (section_length a.agenda.now 0 open_bytes (omega arith))) x.ensures in
     let put = whole_copy (entries_in a.agenda.now) o.new.rows y.new.out
-    (section_length a.agenda.now 0 open_bytes (omega arith) ∙ sym (o.auto.rows ∙ x.auto.out)) y.ensures in record { joined = λ D gs es h k l few small e f.
+    (section_length a.agenda.now 0 open_bytes (omega arith) ∙ sym (o.auto.rows ∙ x.auto.out)) y.ensures in record {
+      joined = λ D gs es h k l few small e f.
           let r = o.ensures D gs es h k l few small ((λ i. record { count = a.opened; rows = entries i }) ∙ e) f in (
             r.0,
             λ t. (λ i. record {
               count = o.result.count;
               rows = (after_entries a.agenda.now y.new.out z.new.out p y.auto.out z.ensures ∙ put) i;
             }) ∙ r.1 t,
-          ); waits = λ t. after_waits a.agenda.now y.new.out z.new.out p y.auto.out z.ensures; refused = λ t. absurd (true≢false (sym yes ∙ t)) }
+          );
+      waits = λ t. after_waits a.agenda.now y.new.out z.new.out p y.auto.out z.ensures;
+      refused = λ t. absurd (true≢false (sym yes ∙ t));
+    }
 
 pub returns-else-joined : goal.returns-else-joined
 returns-else-joined c =
@@ -40,6 +44,10 @@ returns-else-joined c =
     let o = c.open_after-joined in
     let no = c.if-joined.false in
     let entries = whole_copy (replicate open_bytes 0) (entries_in a.agenda.now) x.new.out
-    (sym (section_length a.agenda.now 0 open_bytes (omega arith))) x.ensures in record { joined = λ D gs es h k l few small e f.
+    (sym (section_length a.agenda.now 0 open_bytes (omega arith))) x.ensures in record {
+      joined = λ D gs es h k l few small e f.
           let r = o.ensures D gs es h k l few small ((λ i. record { count = a.opened; rows = entries i }) ∙ e) f in
-          (r.0, λ t. absurd (true≢false (sym t ∙ no))); waits = λ t. absurd (true≢false (sym t ∙ no)); refused = λ t. refl }
+          (r.0, λ t. absurd (true≢false (sym t ∙ no)));
+      waits = λ t. absurd (true≢false (sym t ∙ no));
+      refused = λ t. refl;
+    }

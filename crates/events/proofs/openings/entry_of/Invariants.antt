@@ -8,7 +8,7 @@ use Rattle.events.specs.Held.{grounds_in}
 use Rattle.events.proofs.openings.entry_of.Given as goal
 
 abbrev pub invariant-loop-k : goal.invariant-loop-k
-invariant-loop-k l = (l.k ≤ l.n) × (l.k + position (same_list eqb l.ground) (grounds_in (l.n - l.k) (drop (17 * l.k) l.rows)) ≡ position (same_list eqb l.ground) (grounds_in l.n l.rows))
+invariant-loop-k l = (l.k ≤ l.n) × (l.k + position (same_list eqb l.act) (grounds_in (l.n - l.k) (drop (17 * l.k) l.rows)) ≡ position (same_list eqb l.act) (grounds_in l.n l.rows))
 
 abbrev pub decreases-loop-k : goal.decreases-loop-k
 decreases-loop-k l = l.n - l.k

@@ -7,4 +7,4 @@ pub returns : goal.returns
 returns c =
     let a = c.args in
     let s = c.put_bytes in
-    join_is (record { count = a.n; rows = a.rows.now }) a.ground.now s.new.out (length a.ground.now) c.requires.entry s.ensures
+    join_is (record { count = a.n; rows = a.rows.now }) a.act.now s.new.out (length a.act.now) c.requires.entry s.ensures

@@ -1,7 +1,6 @@
 use mathlib.Core.Path.{refl, sym, ap, ◌∙◌}
 use Rattle.records.proofs.Lists.{not_false, not_true}
 use mathlib.Core.List.{List}
-use Prim.Native.Nat.{◌-◌}
 use native.Mathlib.Omega.{arith}
 use Rattle.events.specs.Held.{Open}
 use Rattle.events.specs.Held.{EventRow, event_at, join_events, OpenAfter}

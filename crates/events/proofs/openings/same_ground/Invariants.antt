@@ -7,7 +7,7 @@ use Rattle.records.specs.Lists.{same_list}
 use Rattle.events.proofs.openings.same_ground.Given as goal
 
 abbrev pub invariant-loop-i : goal.invariant-loop-i
-invariant-loop-i l = (l.i ≤ 17) × (same_list eqb (drop l.i l.ground) (drop l.i (take 17 (drop l.at l.memory))) ≡ same_list eqb l.ground (take 17 (drop l.at l.memory)))
+invariant-loop-i l = (l.i ≤ 17) × (same_list eqb (drop l.i l.act) (drop l.i (take 17 (drop l.at l.memory))) ≡ same_list eqb l.act (take 17 (drop l.at l.memory)))
 
 abbrev pub decreases-loop-i : goal.decreases-loop-i
 decreases-loop-i l = 17 - l.i

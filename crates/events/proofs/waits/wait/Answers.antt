@@ -14,4 +14,4 @@ pub returns : goal.returns
 returns c =
     let a = c.args in
     let p = c.requires in
-    let x = c.put_bytes in record { entries = more_entries a.agenda.now a.n a.moment p.agenda p.few x.new.out x.auto.out; waits = λ D es e b f w m g. more_waits a.agenda.now a.n a.moment p.agenda p.few x.new.out x.auto.out b es f w e a.ground m g x.ensures }
+    let x = c.put_bytes in record { entries = more_entries a.agenda.now a.n a.moment p.agenda p.few x.new.out x.auto.out; waits = λ D es e b f w m g. more_waits a.agenda.now a.n a.moment p.agenda p.few x.new.out x.auto.out b es f w e a.act m g x.ensures }

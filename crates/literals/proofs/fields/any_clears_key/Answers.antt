@@ -1,5 +1,4 @@
 use mathlib.Core.Path.{sym, ◌∙◌}
-use Prim.Native.Nat.{◌-◌}
 use native.Mathlib.Omega.{arith}
 use Rattle.literals.specs.Held.{key_cleared_in}
 use Rattle.literals.proofs.Rows.{any_first, any_hit, any_miss, any_end}

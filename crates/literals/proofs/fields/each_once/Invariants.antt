@@ -1,7 +1,7 @@
 -- `literals::fields::each_once` meets its contract. The loop's invariant: each number below k stands once. Assumes nothing.
 use mathlib.Core.Path.{◌≡◌}
 use mathlib.Core.Bool.{true}
-use Prim.Native.Nat.{◌-◌, ◌≤◌}
+use Prim.Native.Nat.{◌≤◌}
 use lib.ListN.{drop}
 use Rattle.literals.specs.Held.{each_once}
 use Rattle.literals.proofs.fields.each_once.Given as goal

@@ -1,6 +1,5 @@
 use mathlib.Core.Path.{sym, ap, ◌∙◌}
 use mathlib.Core.Bool.{not}
-use Prim.Native.Nat.{◌-◌}
 use native.Mathlib.Omega.{arith}
 use Rattle.literals.specs.Held.{high_key}
 use Rattle.literals.proofs.Bytes.{search_start, search_hit, search_miss, search_end}

@@ -1,5 +1,5 @@
 -- `key_number` meets its contract: it is the number of the eight bytes from the key k on. Assumes nothing.
-use Prim.Native.Nat.{◌-◌, ◌≤◌}
+use Prim.Native.Nat.{◌≤◌}
 use lib.ListN.{take, drop}
 use Rattle.literals.specs.Held.{keys_in, component_row_in, EightAt}
 use Rattle.literals.proofs.KeyRows.{tuple_filled}

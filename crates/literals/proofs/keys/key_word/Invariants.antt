@@ -1,6 +1,6 @@
 -- `key_word` meets its contract: after k turns the number has the bytes under the first k keys. Assumes nothing.
 use mathlib.Core.Path.{◌≡◌}
-use Prim.Native.Nat.{◌-◌, ◌≤◌, ◌<◌}
+use Prim.Native.Nat.{◌≤◌, ◌<◌}
 use lib.ListN.{take, drop}
 use Rattle.literals.specs.Held.{component_row_in, under_keys, word_from}
 use Rattle.literals.proofs.KeyRows.{word_limit}

@@ -1,6 +1,5 @@
 use native.Mathlib.Omega.{arith}
 use mathlib.Core.Path.{sym, ap, ◌∙◌}
-use Prim.Native.Nat.{◌-◌}
 use Rattle.literals.specs.Domain.{is_key}
 use Rattle.literals.specs.Decode.{label_of}
 use Rattle.literals.specs.Held.{place_under}

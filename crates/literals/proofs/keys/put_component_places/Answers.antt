@@ -1,5 +1,4 @@
 use native.Mathlib.Omega.{arith}
-use Prim.Native.Nat.{◌-◌}
 use Rattle.literals.specs.Domain.{key}
 use Rattle.literals.specs.Held.{component_row_in}
 use Rattle.literals.proofs.Places.{place_few, own_none, own_more}

@@ -1,6 +1,6 @@
 -- `put_component_places` meets its contract: after k turns the places of the first k keys stand in the memory. Assumes nothing.
 use mathlib.Core.Path.{◌≡◌}
-use Prim.Native.Nat.{◌-◌, ◌≤◌}
+use Prim.Native.Nat.{◌≤◌}
 use Rattle.literals.specs.Held.{keys_in}
 use Rattle.literals.proofs.Places.{OwnPlaces}
 use Rattle.literals.proofs.keys.put_component_places.Given as goal

@@ -1,5 +1,5 @@
 -- `put_components` meets its contract: the components from c on are written. Assumes nothing.
-use Prim.Native.Nat.{◌-◌, ◌≤◌}
+use Prim.Native.Nat.{◌≤◌}
 use Rattle.literals.specs.Held.{components_in}
 use Rattle.literals.proofs.Places.{Marked}
 use Rattle.literals.proofs.keys.put_components.Given as goal

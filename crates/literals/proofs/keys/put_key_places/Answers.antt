@@ -1,6 +1,5 @@
 use native.Mathlib.Omega.{arith}
 use mathlib.Core.Path.{refl, ◌∙◌}
-use Prim.Native.Nat.{◌-◌}
 use Rattle.literals.proofs.Places.{places_none, places_more}
 use Rattle.literals.proofs.keys.put_key_places.Goals as goal
 

@@ -1,6 +1,6 @@
 -- `put_key_places` meets its contract: after c turns the places of the first c components stand in the memory. Assumes nothing.
 use mathlib.Core.Path.{◌≡◌}
-use Prim.Native.Nat.{ℕ, ◌-◌, ◌≤◌, ◌<◌}
+use Prim.Native.Nat.{ℕ, ◌≤◌, ◌<◌}
 use lib.ListN.{length, get_or}
 use Rattle.literals.specs.Held.{components_in}
 use Rattle.literals.proofs.Places.{Places}

@@ -1,5 +1,4 @@
 use mathlib.Core.Path.{sym, ◌∙◌}
-use Prim.Native.Nat.{◌-◌}
 use native.Mathlib.Omega.{arith}
 use Rattle.literals.specs.Held.{row_of, meets_as}
 use Rattle.literals.proofs.Rows.{any_hit, any_miss, any_end}

@@ -1,5 +1,4 @@
 use mathlib.Core.Path.{sym, ◌∙◌}
-use Prim.Native.Nat.{◌-◌}
 use native.Mathlib.Omega.{arith}
 use Rattle.literals.proofs.Rows.{meet_miss, meet_hit, meet_end}
 use Rattle.literals.proofs.row.arguments_meet.Goals as goal

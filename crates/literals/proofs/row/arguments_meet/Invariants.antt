@@ -1,6 +1,6 @@
 -- `arguments_meet` meets its contract. The loop's invariant: the bytes left answer as all do. Assumes nothing.
 use mathlib.Core.Path.{◌≡◌}
-use Prim.Native.Nat.{◌-◌, ◌≤◌}
+use Prim.Native.Nat.{◌≤◌}
 use lib.ListN.{take, drop}
 use Rattle.records.specs.Lists.{same_list}
 use Rattle.literals.specs.Held.{meet_byte, arguments_meet}

@@ -1,6 +1,6 @@
 -- `number_row` meets its contract: it is the number of the eight bytes from the byte i on. Assumes nothing.
 use mathlib.Core.List.{◌++◌}
-use Prim.Native.Nat.{◌-◌, ◌≤◌}
+use Prim.Native.Nat.{◌≤◌}
 use lib.ListN.{length, replicate}
 use Rattle.literals.specs.Held.{row_of, EightAt}
 use Rattle.literals.proofs.row.number_row.Given as goal

@@ -1,5 +1,4 @@
 use mathlib.Core.Path.{sym, ◌∙◌}
-use Prim.Native.Nat.{◌-◌}
 use native.Mathlib.Omega.{arith}
 use Rattle.literals.proofs.Rows.{payload_miss, payload_hit, payload_end}
 use Rattle.literals.proofs.row.payload_meets.Goals as goal

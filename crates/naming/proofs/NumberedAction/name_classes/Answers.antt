@@ -23,13 +23,16 @@ name_each-requires c =
 pub returns-then-not-self : goal.returns-then-not-self
 returns-then-not-self c =
     let back8 = c in
-    let w = c.name_each.ensures in record { rows = w.rows; named = λ before old D a i N A t f g.
+    let w = c.name_each.ensures in record {
+      rows = w.rows;
+      named = λ before old D a i N A t f g.
           w.named before old D a i N (record {
             whole = A;
             numbers_are = f;
             usages_are = back8.usages_at.ensures.usages D a _ A refl;
           }) t
-          (λ k. absurd (clash k (not_true _ c.if-not-self.true))) g }
+          (λ k. absurd (clash k (not_true _ c.if-not-self.true))) g;
+    }
 
 pub name_each-requires-2 : goal.name_each-requires-2
 name_each-requires-2 c =
@@ -47,7 +50,9 @@ returns c =
     let back16 = back8 in
     let w = c.name_each-2.ensures in
     let b = back16.args in
-    let p = back16.requires in record { rows = w.rows; named = λ before old D a i N A t f g.
+    let p = back16.requires in record {
+      rows = w.rows;
+      named = λ before old D a i N A t f g.
           w.named before old D a i N (record {
             whole = A;
             numbers_are = f;
@@ -65,4 +70,5 @@ returns c =
                 (back8.note_soles.ensures refl) refl j h
                 ∙ reach_is D a f (ap (pad 64) (usages_held true End b.rows.now _ A.says.bounded A.listed A.apart
                 A.literals p.rowed)) j;
-          }) g }
+          }) g;
+    }

@@ -1,5 +1,5 @@
 use mathlib.Core.Path.{refl, ◌∙◌}
-use Prim.Native.Nat.{◌-◌, ◌<◌}
+use Prim.Native.Nat.{◌<◌}
 use native.Mathlib.Omega.{arith}
 use lib.ListN.{length}
 use Rattle.classes.specs.Classes.{classes}
@@ -77,6 +77,9 @@ returns c =
     let l = c.loop-class in
     let w = l.invariant.few in
     let r = l.invariant.reach in
-    let z = c.new-next.ensures.rows in record { rows = omega arith; named = λ before old D a i L M t E g.
+    let z = c.new-next.ensures.rows in record {
+      rows = omega arith;
+      named = λ before old D a i L M t E g.
           named_end D a i (classes D a) before l.class (omega arith)
-          (l.invariant.named before old D a i (c.new-next.ensures.named before _ old L) M t E g) }
+          (l.invariant.named before old D a i (c.new-next.ensures.named before _ old L) M t E g);
+    }

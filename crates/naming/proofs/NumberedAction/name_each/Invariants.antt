@@ -1,7 +1,6 @@
 -- `NumberedAction::name_each` meets its contract. The loop's invariant is `InClasses` of proofs/NamedRows; the measure is how many classes
 -- are
 -- left. Assumes nothing.
-use Prim.Native.Nat.{◌-◌}
 use Rattle.naming.proofs.NamedRows.{InClasses}
 use Rattle.naming.proofs.NumberedAction.name_each.Given as goal
 

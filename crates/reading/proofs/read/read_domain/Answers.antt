@@ -1,5 +1,4 @@
 use mathlib.Core.Path.{◌∙◌}
-use Prim.Native.Nat.{◌-◌}
 use Rattle.reading.proofs.Turns.{begins, too_long, loop_table, loop_ready, loop_on, loop_falls, loop_answer}
 use Rattle.reading.proofs.read.read_domain.Goals as goal
 

@@ -14,8 +14,11 @@ bounds-p-0 c =
     omega (arith, f.0)
 
 pub returns-then-is_used : goal.returns-then-is_used
-returns-then-is_used c = record { fault = λ D K. component_used K _ c.component_fields-fields.ensures (omega arith)
-      c.is_used.ensures c.if-is_used.true; fits = λ z. absurd (omega arith) }
+returns-then-is_used c = record {
+  fault = λ D K. component_used K _ c.component_fields-fields.ensures (omega arith)
+      c.is_used.ensures c.if-is_used.true;
+  fits = λ z. absurd (omega arith);
+}
 
 pub keys_with-requires : goal.keys_with-requires
 keys_with-requires c = (component_short _ _ c.component_fields-fields.ensures (omega arith)).1
@@ -24,23 +27,29 @@ pub label_fields-labels-requires : goal.label_fields-labels-requires
 label_fields-labels-requires c = record { arguments = c.keys_with.ensures.few; short = (component_short _ _ c.component_fields-fields.ensures (omega arith)).1 }
 
 pub returns-then-number-ne0 : goal.returns-then-number-ne0
-returns-then-number-ne0 c = record { fault = λ D K.
+returns-then-number-ne0 c = record {
+  fault = λ D K.
       let f = c.component_fields-fields.ensures in
       let u = c.is_used.ensures in
       let k = c.keys_with.ensures.number D K.says in
       component_labels K _ f (omega arith) u c.if-is_used.false k c.label_fields-labels.ensures
-      (λ z. omega arith); fits = λ z. absurd (omega arith) }
+      (λ z. omega arith);
+  fits = λ z. absurd (omega arith);
+}
 
 pub returns-then-not-clears_in : goal.returns-then-not-clears_in
 returns-then-not-clears_in c =
     let back8 = c in
-    let component-fields = back8.component_fields-fields in record { fault = λ D K.
+    let component-fields = back8.component_fields-fields in record {
+      fault = λ D K.
           let f = component-fields.ensures in
           let u = c.is_used.ensures in
           let k = c.keys_with.ensures.number D K.says in
           component_plain K _ f (omega arith) u c.if-is_used.false k
           c.label_fields-labels.ensures (omega arith)
-          (sym c.clears_in.ensures ∙ c.if-not-clears_in.true); fits = λ z. (component_short _ _ component-fields.ensures (omega arith)).1 }
+          (sym c.clears_in.ensures ∙ c.if-not-clears_in.true);
+      fits = λ z. (component_short _ _ component-fields.ensures (omega arith)).1;
+    }
 
 pub any_clears_key-requires : goal.any_clears_key-requires
 any_clears_key-requires c =
@@ -51,24 +60,30 @@ any_clears_key-requires c =
 
 pub returns-then-any_clears_key : goal.returns-then-any_clears_key
 returns-then-any_clears_key c =
-    let back8 = c in record { fault = λ D K.
+    let back8 = c in record {
+      fault = λ D K.
           let f = back8.component_fields-fields.ensures in
           let u = back8.is_used.ensures in
           let k = c.keys_with.ensures.number D K.says in
           let r = c.all_rows.ensures.number D K in
           let a = c.any_clears_key.ensures in
           component_cleared K _ f (omega arith) u back8.if-is_used.false k
-          c.label_fields-labels.ensures (omega arith) r a c.if-any_clears_key.true; fits = λ z. absurd (omega arith) }
+          c.label_fields-labels.ensures (omega arith) r a c.if-any_clears_key.true;
+      fits = λ z. absurd (omega arith);
+    }
 
 pub returns : goal.returns
 returns c =
     let back8 = c in
-    let component-fields = back8.component_fields-fields in record { fault = λ D K.
+    let component-fields = back8.component_fields-fields in record {
+      fault = λ D K.
           let f = component-fields.ensures in
           let u = back8.is_used.ensures in
           let k = c.keys_with.ensures.number D K.says in
           let r = c.all_rows.ensures.number D K in
           let a = c.any_clears_key.ensures in
           component_kept K _ f (omega arith) u back8.if-is_used.false k
-          c.label_fields-labels.ensures (omega arith) r a c.if-any_clears_key.false; fits = λ z. (component_short _ _ component-fields.ensures
-          (omega arith)).1 }
+          c.label_fields-labels.ensures (omega arith) r a c.if-any_clears_key.false;
+      fits = λ z. (component_short _ _ component-fields.ensures
+          (omega arith)).1;
+    }

@@ -9,9 +9,12 @@ use Rattle.reading.proofs.take.take_component.Goals as goal
 
 pub returns-then-components_in-ge-MAX_COMPONENTS : goal.returns-then-components_in-ge-MAX_COMPONENTS
 returns-then-components_in-ge-MAX_COMPONENTS c =
-    let b = c.components_in.ensures.number in record { number = λ D old K.
+    let b = c.components_in.ensures.number in record {
+      number = λ D old K.
           let n = component_full K.filled.says _ (omega arith) in
-          unwritten K component_record _ (same_component D _) (take_stop K.filled component_record _ n (not_zero 13)); place = λ D K. component_full_place K.says _ (omega arith) }
+          unwritten K component_record _ (same_component D _) (take_stop K.filled component_record _ n (not_zero 13));
+      place = λ D K. component_full_place K.says _ (omega arith);
+    }
 
 pub add_component-requires : goal.add_component-requires
 add_component-requires c =
@@ -24,14 +27,20 @@ pub returns-then-number-eq0 : goal.returns-then-number-eq0
 returns-then-number-eq0 c =
     let b = c.components_in.ensures.number in
     let f = c.component_fault-fault.ensures.fault in
-    let z = c.if-number-eq0.true in record { number = λ D old K.
+    let z = c.if-number-eq0.true in record {
+      number = λ D old K.
           let n = component_number K.filled.says _ (omega arith) (f D (held_over K)) in
           unwritten K component_record _ (same_component D _)
-          (take_done D component_record _ n z (c.add_component.ensures D K.filled (n ∙ z))); place = λ D K. component_place K.says _ (omega arith) (f D K) }
+          (take_done D component_record _ n z (c.add_component.ensures D K.filled (n ∙ z)));
+      place = λ D K. component_place K.says _ (omega arith) (f D K);
+    }
 
 pub returns : goal.returns
 returns c =
     let b = c.components_in.ensures.number in
-    let f = c.component_fault-fault.ensures.fault in record { number = λ D old K.
+    let f = c.component_fault-fault.ensures.fault in record {
+      number = λ D old K.
           let n = component_number K.filled.says _ (omega arith) (f D (held_over K)) in
-          unwritten K component_record _ (same_component D _) (take_stop K.filled component_record _ n c.if-number-eq0.false); place = λ D K. component_place K.says _ (omega arith) (f D K) }
+          unwritten K component_record _ (same_component D _) (take_stop K.filled component_record _ n c.if-number-eq0.false);
+      place = λ D K. component_place K.says _ (omega arith) (f D K);
+    }

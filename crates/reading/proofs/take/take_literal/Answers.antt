@@ -1,6 +1,5 @@
 -- `take_literal` meets its contract. Assumes nothing.
 use mathlib.Core.Path.{◌≡◌, refl, sym, ◌∙◌}
-use mathlib.Core.Logic.{⊎_elim}
 use Prim.Native.Nat.{◌+◌, ◌-◌}
 use native.Mathlib.Omega.{arith}
 use lib.ListN.{length}
@@ -88,8 +87,9 @@ place_literal-requires c =
     let m = R.room f.0 (omega arith) in
     let told : literal_arguments c.variables_of-variables.result c.args.p.now ≡ 0 =
     elim c.if-beyond.branch [
-      then-beyond+else-arguments-ne0 w ↦ let y : w.literal_arguments-arguments.result ≡ 0 = omega arith in sym w.literal_arguments-arguments.ensures ∙ y
-    | else-beyond w ↦ let v = c.variables_of-variables.ensures.few in plain_arguments _ _ (omega arith) (sym c.any_beyond-beyond.ensures ∙ w.if-beyond.false) ] in
+      | then-beyond+else-arguments-ne0 w ↦ let y : w.literal_arguments-arguments.result ≡ 0 = omega arith in sym w.literal_arguments-arguments.ensures ∙ y
+      | else-beyond w ↦ let v = c.variables_of-variables.ensures.few in plain_arguments _ _ (omega arith) (sym c.any_beyond-beyond.ensures ∙ w.if-beyond.false)
+    ] in
     let v = c.variables_of-variables.ensures.few in
     let e = told_every _ _ (omega arith) c.any_beyond-beyond.result c.any_beyond-beyond.ensures told in
     record { latest = omega arith; actions = omega arith; size = s.size; few = omega arith; room = omega arith; long = f.0; short = f.1; every = e }
@@ -103,8 +103,9 @@ returns c =
     let actions-in = back16.actions_in-n in
     let told : literal_arguments variables-of.result back24.args.p.now ≡ 0 =
     elim c.if-beyond.branch [
-      then-beyond+else-arguments-ne0 w ↦ let y : w.literal_arguments-arguments.result ≡ 0 = omega arith in sym w.literal_arguments-arguments.ensures ∙ y
-    | else-beyond w ↦ let v = variables-of.ensures.few in plain_arguments _ _ (omega arith) (sym c.any_beyond-beyond.ensures ∙ w.if-beyond.false) ] in
+      | then-beyond+else-arguments-ne0 w ↦ let y : w.literal_arguments-arguments.result ≡ 0 = omega arith in sym w.literal_arguments-arguments.ensures ∙ y
+      | else-beyond w ↦ let v = variables-of.ensures.few in plain_arguments _ _ (omega arith) (sym c.any_beyond-beyond.ensures ∙ w.if-beyond.false)
+    ] in
     let a = actions-in.ensures.number in
     let b = back16.components_in.ensures.number in
     let s = back8.span_of-span.ensures in

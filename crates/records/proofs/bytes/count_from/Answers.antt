@@ -1,5 +1,4 @@
 use mathlib.Core.Path.{sym}
-use Prim.Native.Nat.{◌-◌}
 use native.Mathlib.Omega.{arith}
 use borrow.Author.Tests.{eq-eqb, ne_eqb}
 use lib.Dec.{eqb}
@@ -12,8 +11,9 @@ loop-i-preserved c =
     let p = eqb c.args.b in
     let s = c.args.s.now in
     elim c.if-s-i.branch [
-      then-s-i w ↦ let e = count_hit s c.loop-i.i 0 (omega arith) p (eq-eqb _ _ (sym w.if-s-i.true)) in (omega arith, omega arith)
-    | else-s-i w ↦ let e = count_miss s c.loop-i.i 0 (omega arith) p (ne_eqb _ _ (λ g. w.if-s-i.false (sym g))) in (omega arith, omega arith) ]
+      | then-s-i w ↦ let e = count_hit s c.loop-i.i 0 (omega arith) p (eq-eqb _ _ (sym w.if-s-i.true)) in (omega arith, omega arith)
+      | else-s-i w ↦ let e = count_miss s c.loop-i.i 0 (omega arith) p (ne_eqb _ _ (λ g. w.if-s-i.false (sym g))) in (omega arith, omega arith)
+    ]
 
 pub returns : goal.returns
 returns c = let start = c.args in omega (arith, count_end start.s.now c.loop-i.i 0 (eqb start.b) (omega arith))

@@ -1,6 +1,6 @@
 -- `put_bytes` meets its contract: after i turns the first i bytes are written. Assumes nothing.
 use mathlib.Core.Path.{◌≡◌}
-use Prim.Native.Nat.{◌-◌, ◌≤◌}
+use Prim.Native.Nat.{◌≤◌}
 use lib.ListN.{length}
 use lib.Seq.{paste}
 use Rattle.records.proofs.bytes.put_bytes.Given as goal

@@ -1,6 +1,6 @@
 -- `put_zeros` meets its contract: after i turns the first i zeros are written. Assumes nothing.
 use mathlib.Core.Path.{◌≡◌}
-use Prim.Native.Nat.{◌-◌, ◌≤◌}
+use Prim.Native.Nat.{◌≤◌}
 use lib.ListN.{replicate}
 use lib.Seq.{paste}
 use Rattle.records.proofs.bytes.put_zeros.Given as goal

@@ -26,10 +26,13 @@ returns-then-keyed c =
     beside_at x.new.index y.new.index (words_at + o.result) _ note_at y.ensures (omega (arith, o.ensures.low))
     ∙ beside_at a.index.now x.new.index o.result _ note_at x.ensures (omega (arith, o.ensures.low)) in
     let g = c.key_slot in
-    let v = c.add_at-then-keyed in record { indexed = λ rows i z. enter_one i row z x.new.index y.new.index o.result w.result
+    let v = c.add_at-then-keyed in record {
+      indexed = λ rows i z. enter_one i row z x.new.index y.new.index o.result w.result
           e f x.ensures y.ensures k.result.row v.new.index g.result
           (keyed_one k.result (keys_in a.head.now) (component_rows_in a.head.now) row k.ensures
-          c.if-keyed.true) g.ensures.number v.ensures; beside = beside_at y.new.index v.new.index (instances_at + g.result) _ note_at v.ensures (omega (arith, g.ensures.low)) ∙ b }
+          c.if-keyed.true) g.ensures.number v.ensures;
+      beside = beside_at y.new.index v.new.index (instances_at + g.result) _ note_at v.ensures (omega (arith, g.ensures.low)) ∙ b;
+    }
 
 pub returns-else-keyed : goal.returns-else-keyed
 returns-else-keyed c =
@@ -46,6 +49,9 @@ returns-else-keyed c =
     let f : w.result ≡ word_of row = w.ensures.number ∙ ap word_of row-at.ensures in
     let b =
     beside_at x.new.index y.new.index (words_at + o.result) _ note_at y.ensures (omega (arith, o.ensures.low))
-    ∙ beside_at a.index.now x.new.index o.result _ note_at x.ensures (omega (arith, o.ensures.low)) in record { indexed = λ rows i z. enter_none i row z x.new.index y.new.index o.result w.result
+    ∙ beside_at a.index.now x.new.index o.result _ note_at x.ensures (omega (arith, o.ensures.low)) in record {
+      indexed = λ rows i z. enter_none i row z x.new.index y.new.index o.result w.result
           e f x.ensures y.ensures
-          (keyed_none k.result (keys_in a.head.now) (component_rows_in a.head.now) row k.ensures c.if-keyed.false); beside = b }
+          (keyed_none k.result (keys_in a.head.now) (component_rows_in a.head.now) row k.ensures c.if-keyed.false);
+      beside = b;
+    }

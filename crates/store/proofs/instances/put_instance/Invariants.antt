@@ -1,7 +1,7 @@
 -- `put_instance` meets its contract: after i turns the first i bytes of the fact are written. Assumes nothing.
 use mathlib.Core.Path.{◌≡◌}
 use mathlib.Core.List.{List}
-use Prim.Native.Nat.{ℕ, ◌-◌, ◌≤◌}
+use Prim.Native.Nat.{ℕ, ◌≤◌}
 use lib.ListN.{take, get_or}
 use lib.Seq.{paste}
 use Rattle.literals.specs.Held.{arity_in, component_row_in}

@@ -1,6 +1,6 @@
 -- `row_at` meets its contract: after i turns the first i bytes of the row are read. Assumes nothing.
 use mathlib.Core.Path.{◌≡◌}
-use Prim.Native.Nat.{◌-◌, ◌≤◌}
+use Prim.Native.Nat.{◌≤◌}
 use lib.ListN.{take, drop, replicate}
 use lib.Seq.{paste}
 use Rattle.store.proofs.rows.row_at.Given as goal

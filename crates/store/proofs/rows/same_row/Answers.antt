@@ -1,5 +1,4 @@
 use mathlib.Core.Path.{sym, ◌∙◌}
-use Prim.Native.Nat.{◌-◌}
 use native.Mathlib.Omega.{arith}
 use Rattle.literals.proofs.KeyRows.{row_miss, row_hit, row_end}
 use Rattle.store.proofs.rows.same_row.Goals as goal

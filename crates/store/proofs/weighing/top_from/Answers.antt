@@ -1,5 +1,5 @@
 use mathlib.Core.Path.{◌≡◌, refl, sym, ap, ◌∙◌}
-use Prim.Native.Nat.{◌-◌, max}
+use Prim.Native.Nat.{max}
 use native.Mathlib.Omega.{arith}
 use Rattle.literals.specs.Held.{keys_in, component_rows_in, rows_in}
 use Rattle.store.specs.Held.{top_rows, Indexed}
