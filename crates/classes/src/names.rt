@@ -9,7 +9,8 @@ ghost use Rattle.literals.specs.declared.Moment.TheVariants.{Start, End};
 ghost use Rattle.literals.specs.declared.Time.TheVariants.{AtStart, OverAll, AtEnd};
 ghost use Rattle.classes.specs.Classes.{classes, lasts_in, name_of, journey};
 ghost use Rattle.classes.specs.Held.{ActionOf, MomentOf, Sides, usages_by, own_usages, class_numbers, uncovered_at, timed, usage_byte};
-ghost use Rattle.classes.specs.Held.{may_meet, same_atom_at, says_at, usage_in, is_at, is_same_at, same_in, is_delete_at, deleted_in, changed_at};
+ghost use Rattle.classes.specs.Held.{may_meet, same_atom_at, says_at, usage_in, is_at};
+ghost use Rattle.classes.specs.Held.{is_same_at, same_in, is_delete_at, deleted_in, changed_at};
 ghost use Rattle.classes.specs.Held.{excludes_at, cleared_beside, cleared_at, covers_at, covered_at, lacking_at, lasts_at, counted_at};
 ghost use Rattle.classes.specs.Held.{has_counted, sole_more, sole_of, reach_at, section_by, section_of, counts_in, SolesOf, sole_in};
 

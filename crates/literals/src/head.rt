@@ -7,7 +7,8 @@ ghost use Rattle.literals.specs.Domain.{Domain, keys_of, bare};
 ghost use Rattle.literals.specs.Decode.{max_relations, max_actions, max_variables, max_arguments, max_literals, max_components};
 ghost use Rattle.literals.specs.Decode.{relation_record, action_record, literal_record, component_record, component_of, literal_of, byte};
 ghost use Rattle.literals.specs.Held.{all_literals, has_every, within, relations_in, actions_in, components_in, keys_in, arity_in};
-ghost use Rattle.literals.specs.Held.{component_row_in, component_rows_in, variables_in, at_clears, clears_in, lasting_in, size_in, first_in};
+ghost use Rattle.literals.specs.Held.{component_row_in, component_rows_in, variables_in, at_clears};
+ghost use Rattle.literals.specs.Held.{clears_in, lasting_in, size_in, first_in};
 ghost use Rattle.literals.specs.Held.{Held, SpanFits, SpanOf, HeadOf, head_bytes, Filled, Adds};
 
 use super::fields::count_keys;

@@ -3,7 +3,8 @@ ghost use Rattle.std.specs.Prelude.{◌≡◌, true, false, List, ℕ, ◌+◌, 
 ghost use Rattle.literals.specs.Domain.{Domain};
 ghost use Rattle.literals.specs.Decode.{byte};
 ghost use Rattle.literals.specs.Held.{HeadOf, Held};
-ghost use Rattle.run_semantics.specs.RunFile.{max_events, max_facts, run_kind_of, fact_of, event_of, objects_stop, fact_stop, event_stop, end_stop};
+ghost use Rattle.run_semantics.specs.RunFile.{max_events, max_facts, run_kind_of, fact_of, event_of};
+ghost use Rattle.run_semantics.specs.RunFile.{objects_stop, fact_stop, event_stop, end_stop};
 ghost use Rattle.run_semantics.specs.Play.{work_bytes, Playing, before_run, go_on, unless, begin, with_objects, with_fact, run_objects};
 ghost use Rattle.run_semantics.specs.Play.{with_event, close_step, with_close, play_record, play_step};
 ghost use Rattle.machine.specs.Held.{Noted, Closable};
