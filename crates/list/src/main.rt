@@ -1,11 +1,11 @@
 // Lists the domain file on standard input.
 #![tactic(auto)]
 
-use libc::STDIN_FILENO;
-use print_verdict::files::DOMAIN_ROOM;
+use print_verdict::files::{DOMAIN_ROOM, read_full};
+use std::io;
 
-fn main() {
+fn main(rt: HostRuntime) -> io::Result<()> {
     let mut file = [0u8; DOMAIN_ROOM];
-    let n = io::read_full(STDIN_FILENO, &mut file);
-    print_verdict::list(&file[..n]);
+    let n = read_full(&mut rt.stdin(), &mut file);
+    print_verdict::list(&mut rt.stdout(), &file[..n])
 }

@@ -1,11 +1,19 @@
-// Reads a file by name, or says on standard error why a program does nothing with it.
-ghost use Rattle.io.specs.Counts.{IsPrefixLen};
+// Reads a file by name, or says on standard error why a program does nothing with it; and the names, which the program's arguments are.
+ghost use Rattle.std.specs.Counts.{IsPrefixLen};
+ghost use Rattle.std.specs.Prelude.{IfOk};
 
-use libc::STDERR_FILENO;
 use literals::limits::MAX_FILE;
+use std::env::{Env, FillError};
+use std::fs::File;
+use std::io;
+use std::io::{Read, Write};
+use std::rt::Files;
 
 // Room for a domain file, and for one byte more than it may have, so that a longer one gets its 9.
 pub const DOMAIN_ROOM: usize = MAX_FILE + 1;
+
+// Room for a file's name.
+pub const NAME_ROOM: usize = 4096;
 
 // Whether a file was read, and how many bytes of it: all, or as many as there was room for.
 #[derive(Clone, Copy)]
@@ -14,47 +22,99 @@ pub struct FileRead {
     pub count: usize,
 }
 
+// How many arguments the program was started with, its own name among them.
+pub fn argument_count(env: &impl Env) -> usize {
+    let mut start = [0u8; 1];
+    for i in 0..usize::MAX {
+        if let Err(FillError::NotPresent) = env.arg(i, &mut start) {
+            return i;
+        }
+    }
+    usize::MAX
+}
+
+// Puts an argument at the start of a memory, and returns its length: 0 where it is missing or longer than the memory.
+pub fn argument(env: &impl Env, i: usize, name: &mut [u8]) -> usize
+    ensures { IsPrefixLen result name.new }
+{
+    match env.arg(i, name) {
+        Ok(length) => length,
+        Err(_) => 0,
+    }
+}
+
 // One line: the program, why, and the file's name.
-pub fn print_error(program: &[u8], why: &[u8], name: &[u8]) {
-    io::write_all(STDERR_FILENO, program);
-    io::write_all(STDERR_FILENO, why);
-    io::write_all(STDERR_FILENO, name);
-    io::write_all(STDERR_FILENO, b"\n");
+pub fn print_error<W: Write>(
+    errors: &mut W,
+    program: &[u8],
+    why: &[u8],
+    name: &[u8],
+) -> io::Result<()> {
+    errors.write_all(program)?;
+    errors.write_all(why)?;
+    errors.write_all(name)?;
+    errors.write_all(b"\n")
 }
 
 // That a file cannot be opened. An argument that is too long for a name comes as an empty one.
-fn print_open_error(program: &[u8], name: &[u8]) {
+fn print_open_error<W: Write>(errors: &mut W, program: &[u8], name: &[u8]) -> io::Result<()> {
     if name.len() == 0 {
-        print_error(program, b": a file name is empty or too long", name);
-        return;
+        return print_error(errors, program, b": a file name is empty or too long", name);
     }
-    print_error(program, b": cannot open ", name);
+    print_error(errors, program, b": cannot open ", name)
+}
+
+// Opens a file for reading. A name is text: one that is not UTF-8 names no file.
+pub fn open_named<R: Files>(rt: &R, name: &[u8]) -> io::Result<R::File> {
+    match str::from_utf8(name) {
+        Ok(path) => File::open(rt, path),
+        Err(_) => Err(io::Error::new(io::ErrorKind::InvalidInput, "a file name is not UTF-8")),
+    }
+}
+
+// Reads until the memory is full, the input ends or a read fails, and returns how many bytes it put at the start of the memory.
+pub fn read_full<R: Read>(input: &mut R, file: &mut [u8]) -> usize
+    ensures { IsPrefixLen result file.new }
+{
+    let mut done = 0;
+    while done < file.len() {
+        match input.read(&mut file[done..]) {
+            Ok(0) => break,
+            Ok(n) => done += n,
+            Err(_) => break,
+        }
+    }
+    done
 }
 
 // Whether reading can go on, at the end of a file too. `read_full` stops at a read that fails (of a directory, say) as it does at the
 // end; one read more tells which.
-fn is_readable(fd: i32) -> bool {
+fn is_readable<R: Read>(input: &mut R) -> bool {
     let mut next = [0u8; 1];
-    libc::read(fd, &mut next) >= 0
+    input.read(&mut next).is_ok()
 }
 
 // Reads a file from its start for the program of a name, or says that it cannot be opened or read.
-pub fn read_named(program: &[u8], name: &[u8], file: &mut [u8]) -> FileRead
-    ensures { IsPrefixLen result.count file.new }
+pub fn read_named<R: Files, W: Write>(
+    rt: &R,
+    errors: &mut W,
+    program: &[u8],
+    name: &[u8],
+    file: &mut [u8],
+) -> io::Result<FileRead>
+    ensures { IfOk result (λ read. IsPrefixLen read.count file.new) }
 {
-    let fd = os::open_read(name);
-    if fd < 0 {
-        print_open_error(program, name);
-        return FileRead {
+    let Ok(mut input) = open_named(rt, name) else {
+        print_open_error(errors, program, name)?;
+        return Ok(FileRead {
             is_read: false,
             count: 0,
-        };
-    }
-    let count = io::read_full(fd, file);
-    let is_read = is_readable(fd);
-    libc::close(fd);
+        });
+    };
+    let count = read_full(&mut input, file);
+    let is_read = is_readable(&mut input);
     if !is_read {
-        print_error(program, b": cannot read ", name);
+        print_error(errors, program, b": cannot read ", name)?;
     }
-    FileRead { is_read, count }
+    Ok(FileRead { is_read, count })
 }
