@@ -12,5 +12,11 @@ fn main(rt: HostRuntime) -> io::Result<()> {
     let n = argument(&rt, 1, &mut domain);
     let mut run = [0u8; NAME_ROOM];
     let m = argument(&rt, 2, &mut run);
-    print_run::play_named(&rt, &mut rt.stdout(), &mut rt.stderr(), &domain[..n], &run[..m])
+    print_run::play_named(
+        &rt,
+        &mut rt.stdout(),
+        &mut rt.stderr(),
+        &domain[..n],
+        &run[..m],
+    )
 }

@@ -28,7 +28,13 @@ fn play_pair<R: Env + Files, W: Write, E: Write>(
 fn main(rt: HostRuntime) -> io::Result<()> {
     let pairs = argument_count(&rt) / 2;
     for i in 0..pairs {
-        play_pair(&rt, &mut rt.stdout(), &mut rt.stderr(), 2 * i + 1, 2 * i + 2)?;
+        play_pair(
+            &rt,
+            &mut rt.stdout(),
+            &mut rt.stderr(),
+            2 * i + 1,
+            2 * i + 2,
+        )?;
     }
     Ok(())
 }

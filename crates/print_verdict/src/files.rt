@@ -1,6 +1,7 @@
 // Reads a file by name, or says on standard error why a program does nothing with it; and the names, which the program's arguments are.
 ghost use Rattle.std.specs.Counts.{IsPrefixLen};
-ghost use Rattle.std.specs.Prelude.{IfOk};
+ghost use Rattle.std.specs.Io.KnownBytes.{Appends};
+ghost use Rattle.std.specs.Prelude.{[], ◌++◌, IfOk, OnOk, ◌∷◌};
 
 use literals::limits::MAX_FILE;
 use std::env::{Env, FillError};
@@ -49,7 +50,10 @@ pub fn print_error<W: Write>(
     program: &[u8],
     why: &[u8],
     name: &[u8],
-) -> io::Result<()> {
+) -> io::Result<()>
+    ensures { OnOk result (Appends (W.contents errors.old) (W.contents errors.new)
+        (program.now ++ why.now ++ name.now ++ (10 ∷ []))) }
+{
     errors.write_all(program)?;
     errors.write_all(why)?;
     errors.write_all(name)?;

@@ -4,22 +4,32 @@
 
 pub mod files;
 
+ghost use Rattle.print_verdict.specs.Lines.{name_line};
+ghost use Rattle.std.specs.Io.KnownBytes.{Appends};
+ghost use Rattle.std.specs.Prelude.{OnOk, ◌++◌, decimal};
+
 use literals::limits::{MAX_ACTIONS, MAX_LITERALS};
 use std::io;
 use std::io::Write;
 
 // A word, then a number.
-pub fn put<W: Write>(out: &mut W, word: &[u8], n: u64) -> io::Result<()> {
+pub fn put<W: Write>(out: &mut W, word: &[u8], n: u64) -> io::Result<()>
+    ensures { OnOk result (Appends (W.contents out.old) (W.contents out.new) (word.now ++ decimal n)) }
+{
     out.write_all(word)?;
     write!(out, "{n}")
 }
 
-pub fn put_byte<W: Write>(out: &mut W, word: &[u8], n: u8) -> io::Result<()> {
+pub fn put_byte<W: Write>(out: &mut W, word: &[u8], n: u8) -> io::Result<()>
+    ensures { OnOk result (Appends (W.contents out.old) (W.contents out.new) (word.now ++ decimal n)) }
+{
     put(out, word, n as u64)
 }
 
 // The name of a number, the end of a line.
-pub fn name<W: Write>(out: &mut W, n: u8) -> io::Result<()> {
+pub fn name<W: Write>(out: &mut W, n: u8) -> io::Result<()>
+    ensures { OnOk result (Appends (W.contents out.old) (W.contents out.new) (name_line n)) }
+{
     match n {
         1 => out.write_all(b" unreachable\n"),
         2 => out.write_all(b" irrelevant\n"),
