@@ -22,7 +22,7 @@ use Rattle.classes.specs.Classes.{classes, name_of}
 use Rattle.verdict.specs.declared.Judgement.{Judgement}
 use Rattle.naming.specs.declared.NamedDomain.{NamedDomain}
 use Rattle.verdict.specs.Decision.{Row, rows, is_unbounded, fault_by, fault_of, is_bounded_outside, first_row, worst_row, accept, decide_bounded, decide_by, decide_rows, decision, class_at, witness_at, witness_of, witness, shown_at, shown_of, is_shown}
-use Rattle.verdict.specs.Judged.{row_bytes, fact_bytes, Answer, answer_at, answer_row, decided, writes_witness, fills_report, judged_domain, report_by, witness_memory_by}
+use Rattle.verdict.specs.Judged.{row_bytes, fact_bytes, Answer, answer_at, answer_row, decided, writes_witness, fills_report, judged_domain}
 use Rattle.verdict.specs.Summaries.{summaries, notes_of, decide_notes, decided_summaries}
 use Rattle.verdict.specs.Held.{judgement_of, moment_by}
 use Rattle.naming.specs.Held.{naming_of}

@@ -1,10 +1,9 @@
 -- A domain that is held, and a player that stands in its run, give the code all that it relies on. Assumes nothing.
 use mathlib.Core.Path.{◌≡◌, ap, ◌∙◌}
 use mathlib.Core.List.{List}
-use Prim.Native.Nat.{ℕ, ◌*◌, ◌≤◌, ◌<◌}
+use Prim.Native.Nat.{ℕ, ◌*◌, ◌≤◌}
 use native.Mathlib.Omega.{arith}
 use lib.ListN.{length}
-use Rattle.records.specs.Memory.{over}
 use Rattle.records.proofs.Memory.{length_over}
 use Rattle.literals.specs.Domain.{Domain}
 use Rattle.literals.specs.Held.{Bounded, HeadOf}

@@ -3,17 +3,17 @@ use mathlib.Core.Path.{◌≡◌, refl, ap}
 use mathlib.Core.Bool.{Bool, true, false, ◌&&◌, ◌||◌, not, cond, false≢true}
 use mathlib.Core.List.Memᴰ
 use mathlib.Core.List.{List, [], ◌∷◌, ◌++◌, map}
-use Prim.Native.Nat.{ℕ, zero, suc, ◌+◌, ◌≤◌, ◌<◌, max}
+use Prim.Native.Nat.{ℕ, zero, suc, ◌+◌, ◌≤◌, ◌<◌}
 use native.Mathlib.Omega.{arith}
 use lib.Dec.{eqb, ltb, leb}
 use lib.ListN.{length, drop, length-map, length-append, length-drop}
-use borrow.Author.Tests.{eqb-true, eqb-false, ltb-false, leb-true, leb-false}
+use borrow.Author.Tests.{eqb-true, eqb-false, ltb-false, leb-false}
 use Rattle.records.specs.Lists.{In, elem, distinct}
 use Rattle.records.specs.declared.Record.{Record}
 use Rattle.records.specs.declared.Record.TheVariants.{Whole, Cut, End}
 use Rattle.records.specs.Record.{record_at, payload}
 use Rattle.records.proofs.Laws.{whole_within}
-use Rattle.records.proofs.Lists.{and_l, or_out, not_false, clash, off, any_out, in_snoc}
+use Rattle.records.proofs.Lists.{or_out, not_false, clash, any_out, in_snoc}
 use Rattle.records.proofs.Numbers.{none_passes}
 use Rattle.literals.specs.declared.Object.{Object}
 use Rattle.literals.specs.Domain.{object, Fact, same_fact, Domain, arity, action}
@@ -30,7 +30,7 @@ use Rattle.run_semantics.proofs.Stops.{event_tests}
 use Rattle.run_semantics.specs.RunFile.{RunKind, objects_record, fact_record, event_record, step_record, end_record, other_record, run_kind_of}
 use Rattle.run_semantics.specs.RunFile.{fact_of, moment_of, event_of, max_objects, max_facts, max_events, outside, objects_stop, fact_stop}
 use Rattle.run_semantics.specs.RunFile.{event_stop, step_stop, end_stop}
-use Rattle.run_semantics.specs.Play.{Tally, Playing, before_run, onward, PlayTurn, go_on, finish, stop_at, begin, with_objects, joined}
+use Rattle.run_semantics.specs.Play.{Tally, Playing, before_run, PlayTurn, go_on, finish, stop_at, begin, with_objects, joined}
 use Rattle.run_semantics.specs.Play.{with_fact, with_event, run_objects, forbidden, too_large, after_step, close_step, with_close, unless}
 use Rattle.run_semantics.specs.Play.{play_record, play_found, play_step, play_from, play_run}
 use Rattle.store.specs.Held.{FactFits}

@@ -8,14 +8,13 @@ use native.Mathlib.Omega.{arith}
 use lib.Dec.{eqb}
 use lib.ListN.{length, get_or, take}
 use lib.Seq.{take_all}
-use borrow.Author.Tests.{eq-eqb}
-use Rattle.records.specs.Lists.{In, any, keep_if, dedup, same_list, below}
+use Rattle.records.specs.Lists.{any, keep_if, dedup, same_list, below}
 use Rattle.records.proofs.Lists.{any_map, eqb_comm, or_out}
 use Rattle.literals.specs.declared.Variable.{Variable}
 use Rattle.literals.specs.declared.Argument.{Argument}
 use Rattle.literals.specs.Domain.{same_variable, variables_of, Atom, Literal, Action, Component, keys_of, Domain}
 use Rattle.literals.specs.Held.{literal_row, actions_in, Held}
-use Rattle.literals.specs.Matching.{key_tuple, is_of, tuples_by, tuples_of}
+use Rattle.literals.specs.Matching.{key_tuple, tuples_by, tuples_of}
 use Rattle.literals.proofs.Indices.{any_below, at_all}
 use Rattle.literals.proofs.Tables.{kept, length_flat, length_literal_row}
 use Rattle.classes.specs.Classes.{literal_tuples, classes}

@@ -6,22 +6,22 @@ use mathlib.Core.Option.{Option, none, some}
 use mathlib.Core.List.{List, [], ◌∷◌, ◌++◌, flat_map}
 use Prim.Native.Nat.{ℕ, zero, suc, ◌+◌, ◌*◌, ◌≤◌, ◌<◌}
 use native.Mathlib.Omega.{arith}
-use lib.Dec.{eqb, ltb}
+use lib.Dec.{ltb}
 use lib.ListN.{get_or, length, drop}
 use borrow.Author.Tests.{ltb-true, ltb-false, ne_eqb}
 use Rattle.records.specs.Memory.{over}
 use Rattle.records.proofs.Lists.{bool_cases, get_d_in, in_get_d}
-use Rattle.literals.specs.Domain.{Component, Domain, arity, bare}
-use Rattle.literals.specs.Decode.{byte, component_of, component_record, field_stop, stop_of, domain, decode}
+use Rattle.literals.specs.Domain.{Domain, arity, bare}
+use Rattle.literals.specs.Decode.{byte, component_of, component_record, field_stop, domain, decode}
 use Rattle.literals.proofs.Bounds.{decoded_bounded, arity_six}
 use Rattle.literals.proofs.Stops.{passes, component_passes}
-use Rattle.verdict.specs.Judged.{Answer, answer_at}
+use Rattle.verdict.specs.Judged.{Answer}
 use Rattle.verdict.specs.Claims.{Safe}
 use Rattle.verdict.proofs.Decodes.{decoded_well_formed}
 use Rattle.services.proofs.Answers.{served_short, served_done}
 use Rattle.templates.specs.Templates.{Shape, shape, component_at, single, listed, place_byte, verdict_of, entry, list_bytes, list_file}
 use Rattle.templates.specs.Templates.{list_after}
-use Rattle.templates.specs.Claims.{Limited, shape_in, component_in, verdict_in, EntriesSafe, NothingMissing, same_shape}
+use Rattle.templates.specs.Claims.{Limited, shape_in, EntriesSafe, NothingMissing, same_shape}
 use Rattle.templates.specs.Held.{place_of_byte}
 use Rattle.templates.proofs.Labels.{PlaceBelow}
 use Rattle.templates.proofs.Legal.{legal_is_read}

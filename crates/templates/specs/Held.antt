@@ -1,15 +1,15 @@
 -- How the code lists the templates: the payload of a component by its place byte, and where listing stands. Assumes nothing.
-use Rattle.std.specs.Prelude.{◌≡◌, Bool, true, cond, ◌⊎◌, ℕ, zero, suc, ◌+◌, ◌-◌, ◌*◌, ◌≤◌, ◌<◌, eqb, ltb, length, get_or, take}
+use Rattle.std.specs.Prelude.{◌≡◌, Bool, true, cond, ◌⊎◌, ℕ, zero, suc, ◌+◌, ◌-◌, ◌*◌, ◌<◌, eqb, ltb, length, get_or, take}
 use mathlib.Core.List.{List, [], ◌∷◌, ◌++◌, map, flat_map}
 use Rattle.std.proofs.Math.Option.{Option, none, some}
-use Rattle.records.specs.Lists.{filter_by, any, below}
+use Rattle.records.specs.Lists.{filter_by, below}
 use Rattle.records.specs.Memory.{over}
 use Rattle.literals.specs.Domain.{Component, Domain, arity, bare}
 use Rattle.literals.specs.Decode.{max_arguments}
 use Rattle.literals.specs.Held.{row_in}
 use Rattle.reading.specs.Held.{HeldOver}
 use Rattle.verdict.specs.Claims.{well_formed}
-use Rattle.templates.specs.Templates.{Shape, shape, shapes_of, shapes_from, component_at, legal_alone, entry}
+use Rattle.templates.specs.Templates.{Shape, shape, shapes_from, component_at, legal_alone, entry}
 
 -- ---- payloads
 

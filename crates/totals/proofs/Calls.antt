@@ -14,7 +14,6 @@ use Rattle.records.specs.Lists.{numbers_from}
 use Rattle.classes.specs.Classes.{name_number}
 use Rattle.verdict.specs.Decision.{Row}
 use Rattle.verdict.specs.Judged.{Answer, decided_file}
-use Rattle.totals.specs.declared.Opening.{Opening}
 use Rattle.totals.specs.declared.Opening.TheVariants.{Whole, Cut}
 use Rattle.totals.specs.Totals.{Opened, cut_at, files, opened, all_rows, files_with, moments_with, totals, total_bytes, totalled, totals_after}
 use Rattle.totals.specs.Claims.{sum, total_in, CountsFiles, AddsUp}

@@ -3,22 +3,20 @@ use mathlib.Core.Path.{◌≡◌, refl, sym, ap, ap₂, ◌∙◌, subst}
 use mathlib.Core.Bool.{true, false}
 use mathlib.Core.Logic.{◌⊎◌, inl, inr}
 use mathlib.Core.List.Memᴰ
-use mathlib.Core.List.{List, [], ◌∷◌, ◌++◌, map}
-use Prim.Native.Nat.{ℕ, suc, ◌+◌, ◌-◌, ◌*◌, ◌≤◌, ◌<◌}
+use mathlib.Core.List.{List, [], ◌∷◌, map}
+use Prim.Native.Nat.{ℕ, ◌+◌, ◌-◌, ◌*◌, ◌≤◌, ◌<◌}
 use native.Mathlib.Omega.{arith}
 use lib.ListN.{length, take, drop, replicate, length-map, length-drop}
 use lib.Seq.{length-take-le, drop-drop}
 use Rattle.records.specs.Lists.{In}
 use Rattle.records.specs.Memory.{over}
 use Rattle.records.proofs.Lists.{bool_cases}
-use Rattle.literals.specs.Domain.{Domain}
-use Rattle.literals.specs.Decode.{domain, decode}
 use Rattle.classes.specs.Classes.{name_number}
 use Rattle.verdict.specs.declared.Judgement.{Judgement}
-use Rattle.verdict.specs.Decision.{Row, witness}
+use Rattle.verdict.specs.Decision.{Row}
 use Rattle.verdict.specs.Judged.{row_bytes, Answer, decided_file, judged, report_after}
 use Rattle.verdict.specs.Held.{judgement_of}
-use Rattle.totals.specs.Totals.{long, whole_file, first_file, Opened, cut_at, files, opened, rows_of_file, name_mark, totals}
+use Rattle.totals.specs.Totals.{long, whole_file, first_file, cut_at, files, opened, rows_of_file, name_mark, totals}
 use Rattle.totals.specs.Held.{files_of, files_in, one_more, one_more_each, marks_of, names_in, Room}
 use Rattle.verdict.proofs.Known.{file_range, name_range}
 use Rattle.totals.proofs.Enough.{judged_enough}

@@ -3,7 +3,7 @@ use mathlib.Core.Path.{◌≡◌, refl, sym, ap, ap₂, ◌∙◌}
 use mathlib.Core.List.{List, [], ◌∷◌, ◌++◌, map}
 use Prim.Native.Nat.{ℕ, zero, suc, ◌+◌, ◌-◌, ◌*◌, ◌≤◌, ◌<◌}
 use native.Mathlib.Omega.{arith}
-use lib.ListN.{length, get_or, drop, replicate, length-append, length-drop, length-replicate, replicate-append-replicate}
+use lib.ListN.{length, get_or, drop, replicate, length-drop, length-replicate, replicate-append-replicate}
 use lib.Seq.{get_or-drop, drop-drop, drop_at}
 use Rattle.records.specs.Memory.{over}
 use Rattle.records.proofs.Memory.{drop_replicate}

@@ -2,7 +2,7 @@
 use mathlib.Core.Path.{◌≡◌, refl, sym, ap, ap₂, ◌∙◌}
 use mathlib.Core.List.Memᴰ
 use mathlib.Core.List.{List, [], ◌∷◌, ◌++◌, map, flat_map, append_assoc, append-nil}
-use Prim.Native.Nat.{ℕ, zero, suc, ◌+◌, ◌-◌, ◌*◌, ◌/◌, ◌%◌, ◌≤◌, ◌<◌}
+use Prim.Native.Nat.{ℕ, suc, ◌+◌, ◌-◌, ◌*◌, ◌/◌, ◌%◌, ◌≤◌, ◌<◌}
 use native.Mathlib.Numerals.{add-one}
 use native.Mathlib.Omega.{arith}
 use lib.ListN.{length, get_or, set, take, drop, replicate, length-append, length-set, length-replicate, replicate-append-replicate}
@@ -14,7 +14,7 @@ use Rattle.records.proofs.Memory.{over_more, length_over}
 use Rattle.totals.specs.Totals.{name_mark, low_bytes, total_bytes}
 use Rattle.totals.specs.Held.{one_more, one_more_each, names_in, Room}
 use Rattle.totals.proofs.Answers.{low_length, bytes_length}
-use Rattle.totals.proofs.Reported.{names_none, names_some, names_short}
+use Rattle.totals.proofs.Reported.{names_some}
 use Rattle.totals.proofs.Tallied.{more_length, room_less, room_more}
 
 -- ---- names

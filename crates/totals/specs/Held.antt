@@ -1,5 +1,5 @@
 -- How the code holds a box and its totals: what opening a box answers, and totals that are counted one by one. Assumes nothing.
-use Rattle.std.specs.Prelude.{List, [], ◌∷◌, map, ℕ, zero, suc, ◌+◌, ◌*◌, ◌<◌, length, get_or, set}
+use Rattle.std.specs.Prelude.{List, [], ◌∷◌, map, ℕ, zero, suc, ◌+◌, ◌*◌, ◌<◌, get_or, set}
 use Rattle.literals.specs.Decode.{max_actions, max_literals}
 use Rattle.classes.specs.Classes.{name_number}
 use Rattle.verdict.specs.Decision.{Row}

@@ -1,6 +1,5 @@
 use mathlib.Core.Path.{sym, ◌∙◌}
 use mathlib.Core.List.{[]}
-use Prim.Native.Nat.{◌-◌}
 use native.Mathlib.Nat.{zero-add}
 use native.Mathlib.Omega.{arith}
 use Rattle.literals.specs.Domain.{action}
@@ -27,6 +26,9 @@ loop-class-preserved c =
 
 pub returns : goal.returns
 returns c =
-    let l = c.loop-class in record { few = omega arith; counts = λ D g y A G ge sized re n m.
+    let l = c.loop-class in record {
+      few = omega arith;
+      counts = λ D g y A G ge sized re n m.
           sym (none_more (journey_for D y g) (classes D (action D g.action)) l.class l.found (omega arith))
-          ∙ l.invariant.2 D g y A G ge sized re n m }
+          ∙ l.invariant.2 D g y A G ge sized re n m;
+    }

@@ -1,7 +1,7 @@
 -- `count_marked` meets its contract: what is found and what the classes from this one on will add is the number. Assumes nothing.
 use mathlib.Core.Path.{◌≡◌}
 use mathlib.Core.List.{List}
-use Prim.Native.Nat.{ℕ, ◌+◌, ◌-◌, ◌≤◌, ◌<◌}
+use Prim.Native.Nat.{ℕ, ◌+◌, ◌≤◌, ◌<◌}
 use lib.ListN.{length, get_or, drop}
 use Rattle.records.specs.Lists.{count_by}
 use Rattle.literals.specs.declared.Object.{Object}

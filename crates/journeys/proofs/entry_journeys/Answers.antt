@@ -13,22 +13,28 @@ use Rattle.journeys.proofs.Belonging.{none_at_once}
 use Rattle.journeys.proofs.entry_journeys.Goals as goal
 
 pub returns-then-actions_in-action : goal.returns-then-actions_in-action
-returns-then-actions_in-action c = record { few = omega arith; counts = λ D g y H wf G ge sized re.
+returns-then-actions_in-action c = record {
+  few = omega arith;
+  counts = λ D g y H wf G ge sized re.
       let t = c.if-actions_in-action.true in
       let n = c.actions_in.ensures.number in
       let w = c.wide-action.ensures.number in
-      absurd (ground_listed H g G _ ge (omega arith)) }
+      absurd (ground_listed H g G _ ge (omega arith));
+}
 
 pub returns-then-not-is_lasting : goal.returns-then-not-is_lasting
 returns-then-not-is_lasting c =
     let back8 = c in
-    let wide = c.wide-action in record { few = omega arith; counts = λ D g y H wf G ge sized re.
+    let wide = c.wide-action in record {
+      few = omega arith;
+      counts = λ D g y H wf G ge sized re.
           let w : wide.result ≡ g.action = wide.ensures.number
           ∙ ap (λ (t : List ℕ). get_or t 0 0) ge in
           let l : g.action < length D.actions = G.listed in
           none_at_once D y g
           (sym (H.says.lasting g.action l)
-          ∙ sym (c.is_lasting.ensures ∙ ap (λ (i : ℕ). lasting_in back8.args.head.now i) w) ∙ c.if-not-is_lasting.true) }
+          ∙ sym (c.is_lasting.ensures ∙ ap (λ (i : ℕ). lasting_in back8.args.head.now i) w) ∙ c.if-not-is_lasting.true);
+    }
 
 pub journeys_of-requires : goal.journeys_of-requires
 journeys_of-requires c =
@@ -41,7 +47,9 @@ pub returns : goal.returns
 returns c =
     let back8 = c in
     let wide = back8.wide-action in
-    let j = c.journeys_of in record { few = j.ensures.few; counts = λ D g y H wf G ge sized re.
+    let j = c.journeys_of in record {
+      few = j.ensures.few;
+      counts = λ D g y H wf G ge sized re.
           let w : wide.result ≡ g.action = wide.ensures.number ∙ ap (λ (t : List ℕ). get_or t 0 0) ge in
           let l : g.action < length D.actions = G.listed in
           let S = c.rows_of-span.ensures.rows D H (omega arith) in
@@ -50,4 +58,5 @@ returns c =
           (sym (H.says.lasting g.action l) ∙ sym (c.is_lasting.ensures ∙ ap
           (λ (i : ℕ). lasting_in back8.args.head.now i) w)
           ∙ c.if-not-is_lasting.false)
-          G ge sized re }
+          G ge sized re;
+    }

@@ -26,8 +26,11 @@ returns c =
     let n = number-classes.ensures in
     let k = n.few in
     let m = c.count_marked in
-    let small = m.ensures.few in record { few = omega arith; counts = λ D g y A lasting G ge sized re.
+    let small = m.ensures.few in record {
+      few = omega arith;
+      counts = λ D g y A lasting G ge sized re.
           let t = n.classes D _ A in
           m.ensures.counts D g y A G ge sized re t.0
           (c.mark_journeys.ensures D _ _ A lasting (part_again number-classes.new.numbers _ _ f ∙ t.1)
-          t.0 refl) }
+          t.0 refl);
+    }

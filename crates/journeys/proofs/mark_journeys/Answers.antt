@@ -1,7 +1,7 @@
 use mathlib.Core.Path.{refl, ap, ap₂, ◌∙◌}
-use mathlib.Core.Bool.{true, false}
+use mathlib.Core.Bool.{false}
 use mathlib.Core.List.{List}
-use Prim.Native.Nat.{ℕ, ◌-◌, ◌<◌}
+use Prim.Native.Nat.{ℕ, ◌<◌}
 use native.Mathlib.Omega.{arith}
 use Rattle.literals.specs.declared.Moment.TheVariants.{End}
 use Rattle.literals.specs.Held.{pad}
@@ -27,9 +27,13 @@ mark_of-requires c =
     let l = c.loop-class in
     let n = l.invariant.1 in
     let t = c.loop-class-test.true in
-    let h : l.class < 64 = omega arith in record { sides = record { rowed = omega arith; few = p.literals }; class = h; counted = start_soles x.rows.now x.numbers.now _ _
-            (c.note_soles.ensures refl)
-            (c.usages_at.ensures.bytes refl) l.class h }
+    let h : l.class < 64 = omega arith in record {
+      sides = record { rowed = omega arith; few = p.literals };
+      class = h;
+      counted = start_soles x.rows.now x.numbers.now _ _
+          (c.note_soles.ensures refl)
+          (c.usages_at.ensures.bytes refl) l.class h;
+    }
 
 pub bounds-marks-class : goal.bounds-marks-class
 bounds-marks-class c =

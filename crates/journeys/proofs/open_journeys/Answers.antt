@@ -1,6 +1,5 @@
 use mathlib.Core.Path.{sym, ap, ◌∙◌}
-use mathlib.Core.Bool.{true}
-use Prim.Native.Nat.{◌-◌, ◌*◌, ◌<◌}
+use Prim.Native.Nat.{◌*◌, ◌<◌}
 use native.Mathlib.Nat.{zero-add}
 use native.Mathlib.Omega.{arith}
 use lib.ListN.{length, get_or}
@@ -77,6 +76,9 @@ returns c =
     let l = c.loop-i in
     let k = l.invariant.2 in
     let t = c.loop-i-test.false in
-    let r = l.invariant.0 in record { few = omega arith; counts = λ D gs y H wf F o sized re.
+    let r = l.invariant.0 in record {
+      few = omega arith;
+      counts = λ D gs y H wf F o sized re.
           let m = open_count gs _ o in
-          sym (entries_end (journeys_for D y) gs l.i l.found (omega arith)) ∙ l.invariant.3 D gs y H wf F o sized re }
+          sym (entries_end (journeys_for D y) gs l.i l.found (omega arith)) ∙ l.invariant.3 D gs y H wf F o sized re;
+    }

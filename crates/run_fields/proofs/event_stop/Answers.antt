@@ -20,31 +20,40 @@ ground_row-requires c = let all = event_short_row _ _ _ (sym c.event_fields-stop
 pub returns-then-is_waiting : goal.returns-then-is_waiting
 returns-then-is_waiting c =
     let f = c.event_fields-stop.ensures in
-    let z = c.if-stop-ne0.false in record { is = λ D es H o w F.
+    let z = c.if-stop-ne0.false in record {
+      is = λ D es H o w F.
           event_repeated D es _ H _ _ _ f z _ c.twice_from.ensures c.if-twice_from.false _
           (event_waits _ _ _ (sym f ∙ z) D H o es F _ w _ c.ground_row.ensures _ c.is_waiting.ensures)
-          c.if-is_waiting.true; fits = λ y. absurd (omega arith) }
+          c.if-is_waiting.true;
+      fits = λ y. absurd (omega arith);
+    }
 
 pub returns-then-count-ge-MAX_EVENTS : goal.returns-then-count-ge-MAX_EVENTS
 returns-then-count-ge-MAX_EVENTS c =
     let back8 = c in
     let f = back8.event_fields-stop.ensures in
-    let z = c.if-stop-ne0.false in record { is = λ D es H o w F.
+    let z = c.if-stop-ne0.false in record {
+      is = λ D es H o w F.
           let k = waiting_count es _ w in
           event_full D es _ H _ _ _ f z _ c.twice_from.ensures
           c.if-twice_from.false _
           (event_waits _ _ _ (sym f ∙ z) D H o es F _ w _ c.ground_row.ensures _
           c.is_waiting.ensures)
-          c.if-is_waiting.false (omega arith); fits = λ y. absurd (omega arith) }
+          c.if-is_waiting.false (omega arith);
+      fits = λ y. absurd (omega arith);
+    }
 
 pub returns : goal.returns
 returns c =
     let back8 = c in
     let f = back8.event_fields-stop.ensures in
-    let z = c.if-stop-ne0.false in record { is = λ D es H o w F.
+    let z = c.if-stop-ne0.false in record {
+      is = λ D es H o w F.
           let k = waiting_count es _ w in
           event_room D es _ H _ _ _ f z _ c.twice_from.ensures
           c.if-twice_from.false _
           (event_waits _ _ _ (sym f ∙ z) D H o es F _ w _ c.ground_row.ensures _
           c.is_waiting.ensures)
-          c.if-is_waiting.false (omega arith); fits = λ y. let l = event_short_row _ _ _ (sym f ∙ z) in (l.0, l.1, c.if-count-ge-MAX_EVENTS.false) }
+          c.if-is_waiting.false (omega arith);
+      fits = λ y. let l = event_short_row _ _ _ (sym f ∙ z) in (l.0, l.1, c.if-count-ge-MAX_EVENTS.false);
+    }

@@ -20,17 +20,23 @@ pub returns-then-has_row : goal.returns-then-has_row
 returns-then-has_row c =
     let back8 = c in
     let f = c.fact_fields-stop in
-    let z = c.if-stop-ne0.false in record { is = λ D fs H r l few.
+    let z = c.if-stop-ne0.false in record {
+      is = λ D fs H r l few.
           fact_known D fs _ H _ _ _ _ f.ensures z
           (fact_found (fact_of back8.args.p.now) fs _ _ _ c.fact_row.ensures r c.has_row.ensures
-          ∙ c.if-has_row.true); fits = λ y. fact_short_row _ _ _ _ (sym f.ensures ∙ z) }
+          ∙ c.if-has_row.true);
+      fits = λ y. fact_short_row _ _ _ _ (sym f.ensures ∙ z);
+    }
 
 pub returns : goal.returns
 returns c =
     let back8 = c in
     let f = c.fact_fields-stop in
-    let z = c.if-stop-ne0.false in record { is = λ D fs H r l few.
+    let z = c.if-stop-ne0.false in record {
+      is = λ D fs H r l few.
           let k = c.if-n-lt-MAX_FACTS.false in
           fact_full D fs _ H _ _ _ _ f.ensures z
           (fact_found (fact_of back8.args.p.now) fs _ _ _ c.fact_row.ensures r c.has_row.ensures
-          ∙ c.if-has_row.false) (omega arith); fits = λ y. absurd (omega arith) }
+          ∙ c.if-has_row.false) (omega arith);
+      fits = λ y. absurd (omega arith);
+    }

@@ -1,6 +1,6 @@
 -- `is_waiting` meets its contract. The loop's invariant: the places left answer as all do. Assumes nothing.
 use mathlib.Core.Path.{◌≡◌}
-use Prim.Native.Nat.{◌-◌, ◌≤◌}
+use Prim.Native.Nat.{◌≤◌}
 use Rattle.records.specs.Lists.{any, below}
 use Rattle.literals.proofs.Indices.{left}
 use Rattle.run_fields.specs.Held.{waits_at}

@@ -25,20 +25,26 @@ pub returns-then-p : goal.returns-then-p
 unfolding objects_stop
 returns-then-p c =
     let low = c in
-    let a = low.args in record { is = simp (
+    let a = low.args in record {
+      is = simp (
         eq-eqb a.objects 0 low.if-objects-ne0.false,
         eq-eqb (length a.p.now) 1 low.if-p-ne1.false,
         ne_eqb (get_or a.p.now 0 0) 0 low.if-p-eq0.false,
         lt-ltb max_objects (get_or a.p.now 0 0) c.if-p.true,
-      ); fits = λ z. absurd (omega arith) }
+      );
+      fits = λ z. absurd (omega arith);
+    }
 
 pub returns : goal.returns
 unfolding objects_stop
 returns c =
     let low = c in
-    let a = low.args in record { is = simp (
+    let a = low.args in record {
+      is = simp (
         eq-eqb a.objects 0 low.if-objects-ne0.false,
         eq-eqb (length a.p.now) 1 low.if-p-ne1.false,
         ne_eqb (get_or a.p.now 0 0) 0 low.if-p-eq0.false,
         le-ltb max_objects (get_or a.p.now 0 0) c.if-p.false,
-      ); fits = λ z. (omega arith, omega arith) }
+      );
+      fits = λ z. (omega arith, omega arith);
+    }

@@ -1,5 +1,4 @@
 use mathlib.Core.Path.{sym, ◌∙◌}
-use Prim.Native.Nat.{◌-◌}
 use native.Mathlib.Omega.{arith}
 use Rattle.run_fields.proofs.RunFields.{twice_hit, twice_miss, twice_end}
 use Rattle.run_fields.proofs.twice_from.Goals as goal

@@ -5,8 +5,11 @@ use Rattle.templates.proofs.list_domain.Goals as goal
 
 pub put_list-size-requires : goal.put_list-size-requires
 put_list-size-requires c =
-    let read = c.requires.read in record { whole = (c.clear_template.ensures read.0
-          (record { says = read.1.says; room = c.requires.whole })).room; room = omega arith }
+    let read = c.requires.read in record {
+      whole = (c.clear_template.ensures read.0
+          (record { says = read.1.says; room = c.requires.whole })).room;
+      room = omega arith;
+    }
 
 pub returns : goal.returns
 returns c D H wf =

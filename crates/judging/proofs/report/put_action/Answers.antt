@@ -1,6 +1,6 @@
 use mathlib.Core.Path.{refl, ◌∙◌}
 use mathlib.Core.List.{[], ◌++◌}
-use Prim.Native.Nat.{◌+◌, ◌-◌, ◌<◌}
+use Prim.Native.Nat.{◌+◌, ◌<◌}
 use native.Mathlib.Omega.{arith}
 use lib.ListN.{length, get_or, take, drop}
 use Rattle.verdict.specs.Decision.{rows_of_classes}
@@ -36,5 +36,8 @@ shape_of-report c = c.loop-class.invariant.2
 pub returns : goal.returns
 returns c =
     let start = c.args in
-    let turn = c.loop-class in record { few = omega arith; rows = λ D a xs rs rest old given l e R.
-          classes_end D a start.action xs rs rest turn.class (omega arith) (turn.invariant.3 D a xs rs rest old given l e R) }
+    let turn = c.loop-class in record {
+      few = omega arith;
+      rows = λ D a xs rs rest old given l e R.
+          classes_end D a start.action xs rs rest turn.class (omega arith) (turn.invariant.3 D a xs rs rest old given l e R);
+    }

@@ -1,10 +1,10 @@
 use mathlib.Core.Path.{refl, sym, ◌∙◌}
-use Prim.Native.Nat.{◌+◌, ◌-◌, ◌<◌}
+use Prim.Native.Nat.{◌+◌, ◌<◌}
 use native.Mathlib.Omega.{arith}
 use lib.ListN.{length, get_or, take, drop}
 use Rattle.literals.specs.Domain.{no_action}
 use Rattle.classes.specs.Classes.{classes}
-use Rattle.verdict.specs.Decision.{rows_from, rows}
+use Rattle.verdict.specs.Decision.{rows_from}
 use Rattle.judging.proofs.Reported.{actions_begin, actions_open, actions_close, actions_end, lasting_is, count_is}
 use Rattle.judging.proofs.report.put_report.Goals as goal
 

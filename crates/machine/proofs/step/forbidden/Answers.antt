@@ -10,25 +10,31 @@ use Rattle.machine.proofs.step.forbidden.Goals as goal
 pub returns-then-not-ends_open : goal.returns-then-not-ends_open
 returns-then-not-ends_open c =
     let opens = c.ends_open in
-    let fails = c.if-not-ends_open.true in record { few = omega arith; asked = λ D objs s es lent some kept is rows held.
+    let fails = c.if-not-ends_open.true in record {
+      few = omega arith;
+      asked = λ D objs s es lent some kept is rows held.
           let r = ap (λ (x : StateRows). x.running) is in
           let w = ap (λ (x : StateRows). x.waiting) is in
           let ends = opens.ensures D s.running es lent.says.bounded kept.running kept.waiting kept.running_few
           kept.waiting_few r w in
-          (not_open D objs s es (sym ends ∙ fails), λ z. absurd (omega arith)) }
+          (not_open D objs s es (sym ends ∙ fails), λ z. absurd (omega arith));
+    }
 
 pub returns-then-not-open_met : goal.returns-then-not-open_met
 returns-then-not-open_met c =
     let opens = c.ends_open in
     let keeps = c.open_met in
     let all-open = c.if-not-ends_open.false in
-    let fails = c.if-not-open_met.true in record { few = omega arith; asked = λ D objs s es lent some kept is rows held.
+    let fails = c.if-not-open_met.true in record {
+      few = omega arith;
+      asked = λ D objs s es lent some kept is rows held.
           let r = ap (λ (x : StateRows). x.running) is in
           let w = ap (λ (x : StateRows). x.waiting) is in
           let ends = opens.ensures D s.running es lent.says.bounded kept.running kept.waiting kept.running_few
           kept.waiting_few r w in
           let keep = keeps.ensures D s.running s.facts lent r kept.running kept.running_few rows held objs kept.chosen in
-          (not_kept D objs s es (sym ends ∙ all-open) (sym keep ∙ fails), λ z. absurd (omega arith)) }
+          (not_kept D objs s es (sym ends ∙ all-open) (sym keep ∙ fails), λ z. absurd (omega arith));
+    }
 
 pub returns-then-not-events_met : goal.returns-then-not-events_met
 returns-then-not-events_met c =
@@ -37,14 +43,17 @@ returns-then-not-events_met c =
     let grounds = c.ground_step-literals in
     let mets = c.events_met in
     let all-open = back8.if-not-ends_open.false in
-    let fails = c.if-not-events_met.true in record { few = omega arith; asked = λ D objs s es lent some kept is rows held.
+    let fails = c.if-not-events_met.true in record {
+      few = omega arith;
+      asked = λ D objs s es lent some kept is rows held.
           let r = ap (λ (x : StateRows). x.running) is in
           let w = ap (λ (x : StateRows). x.waiting) is in
           let ends = opens.ensures D s.running es lent.says.bounded kept.running kept.waiting kept.running_few
           kept.waiting_few r w in
           let G = grounds.ensures.grounded D es lent w kept.waiting kept.waiting_few in
           let met = mets.ensures D _ es s.facts G rows held objs (events_chosen kept) in
-          (not_met D objs s es (sym ends ∙ all-open) (sym met ∙ fails), λ z. absurd (omega arith)) }
+          (not_met D objs s es (sym ends ∙ all-open) (sym met ∙ fails), λ z. absurd (omega arith));
+    }
 
 pub independent-requires : goal.independent-requires
 independent-requires c =
@@ -65,7 +74,9 @@ returns-then-not-independent c =
     let all-open = back8.if-not-ends_open.false in
     let all-kept = back8.if-not-open_met.false in
     let all-met = c.if-not-events_met.false in
-    let fails = c.if-not-independent.true in record { few = omega arith; asked = λ D objs s es lent some kept is rows held.
+    let fails = c.if-not-independent.true in record {
+      few = omega arith;
+      asked = λ D objs s es lent some kept is rows held.
           let r = ap (λ (x : StateRows). x.running) is in
           let w = ap (λ (x : StateRows). x.waiting) is in
           let ends = opens.ensures D s.running es lent.says.bounded kept.running kept.waiting kept.running_few
@@ -77,7 +88,8 @@ returns-then-not-independent c =
             not_apart D objs s es (sym ends ∙ all-open) (sym met ∙ all-met) (sym keep ∙ all-kept)
                 (sym apart ∙ fails),
             λ z. absurd (omega arith),
-          ) }
+          );
+    }
 
 pub returns : goal.returns
 returns c =
@@ -91,7 +103,9 @@ returns c =
     let all-open = back8.if-not-ends_open.false in
     let all-kept = back8.if-not-open_met.false in
     let all-met = c.if-not-events_met.false in
-    let All-apart = c.if-not-independent.false in record { few = grounds.ensures.few; asked = λ D objs s es lent some kept is rows held.
+    let All-apart = c.if-not-independent.false in record {
+      few = grounds.ensures.few;
+      asked = λ D objs s es lent some kept is rows held.
           let r = ap (λ (x : StateRows). x.running) is in
           let w = ap (λ (x : StateRows). x.waiting) is in
           let ends = opens.ensures D s.running es lent.says.bounded kept.running kept.waiting kept.running_few
@@ -103,4 +117,5 @@ returns c =
             nothing_forbids D objs s es (sym ends ∙ all-open) (sym met ∙ all-met) (sym keep ∙ all-kept)
                 (sym apart ∙ All-apart),
             λ z. G,
-          ) }
+          );
+    }

@@ -16,16 +16,22 @@ use Rattle.player.proofs.Player.step.Goals as goal
 pub returns-then-at-run : goal.returns-then-at-run
 returns-then-at-run c =
     let a = c.args in
-    let player = whole_in a.self a.agenda.now in record { leads = λ D q old H st noted. turn_behind D a.run.now q player a.work.now old st c.if-self.true c.if-at-run.true; noted = λ D q old H st noted.
+    let player = whole_in a.self a.agenda.now in record {
+      leads = λ D q old H st noted. turn_behind D a.run.now q player a.work.now old st c.if-self.true c.if-at-run.true;
+      noted = λ D q old H st noted.
           noted_ended D a.head.now a.index.now (play_step D a.run.now q) (record { number = 50; player = player }) a.work.now old
-          (turn_behind D a.run.now q player a.work.now old st c.if-self.true c.if-at-run.true) (λ z. omega arith) }
+          (turn_behind D a.run.now q player a.work.now old st c.if-self.true c.if-at-run.true) (λ z. omega arith);
+    }
 
 pub returns-then-self : goal.returns-then-self
 returns-then-self c =
     let a = c.args in
-    let player = whole_in a.self a.agenda.now in record { leads = λ D q old H st noted. turn_end D a.run.now q player a.work.now old st c.if-self.true c.if-at-run.false; noted = λ D q old H st noted.
+    let player = whole_in a.self a.agenda.now in record {
+      leads = λ D q old H st noted. turn_end D a.run.now q player a.work.now old st c.if-self.true c.if-at-run.false;
+      noted = λ D q old H st noted.
           noted_ended D a.head.now a.index.now (play_step D a.run.now q) (record { number = 2; player = player }) a.work.now old
-          (turn_end D a.run.now q player a.work.now old st c.if-self.true c.if-at-run.false) (λ z. omega arith) }
+          (turn_end D a.run.now q player a.work.now old st c.if-self.true c.if-at-run.false) (λ z. omega arith);
+    }
 
 pub overflow_add-end : goal.overflow_add-end
 overflow_add-end c =
@@ -49,10 +55,13 @@ returns-then-kind-ne19 c =
     let player = whole_in a.self a.agenda.now in
     let l = c.take_run_record in
     let found = sym back8.record_at.ensures ∙ back8.in-Whole.is in
-    let going = back8.if-self.false in record { leads = λ D q old H st noted.
-          turn_whole D a.run.now q player a.work.now old st going _ _ _ found _ _ _ refl (l.ensures.leads D q old H.says st noted); noted = λ D q old H st noted.
+    let going = back8.if-self.false in record {
+      leads = λ D q old H st noted.
+          turn_whole D a.run.now q player a.work.now old st going _ _ _ found _ _ _ refl (l.ensures.leads D q old H.says st noted);
+      noted = λ D q old H st noted.
           turn_noted D a.run.now q player a.work.now old st going _ _ _ found _ refl a.head.now _
-          (l.ensures.noted D q old H.says st noted) }
+          (l.ensures.noted D q old H.says st noted);
+    }
 
 pub begin-begun-requires : goal.begin-begun-requires
 begin-begun-requires c =
@@ -72,16 +81,19 @@ returns-then-number-ne0 c =
     let x = c.step_stop-number in
     let found = sym back8.record_at.ensures ∙ kind.is in
     let going = back8.if-self.false in
-    let k = kind_19 kind.kind c.if-kind-ne19.false in record { leads = λ D q old H st noted.
+    let k = kind_19 kind.kind c.if-kind-ne19.false in record {
+      leads = λ D q old H st noted.
           let s = stands_begun p.playable begun (λ D p old. b.ensures D p a.agenda.now old) D H.says q old st noted in
           turn_whole D a.run.now q player a.work.now old st going _ _ _ found _ _ _ refl
-          (step_refused D q begun a.work.now old s _ x.result x.ensures kind.kind k (kind.start + kind.len) c.if-number-ne0.true); noted = λ D q old H st noted.
+          (step_refused D q begun a.work.now old s _ x.result x.ensures kind.kind k (kind.start + kind.len) c.if-number-ne0.true);
+      noted = λ D q old H st noted.
           let s = stands_begun p.playable begun (λ D p old. b.ensures D p a.agenda.now old) D H.says q old st noted in
           turn_noted D a.run.now q player a.work.now old st going _ _ _ found _ refl a.head.now _
           (noted_ended D _ _ (play_record D q (run_kind_of kind.kind) _ (kind.start + kind.len)) (record { number = x.result; player = begun })
           a.work.now old
           (step_refused D q begun a.work.now old s _ x.result x.ensures kind.kind k (kind.start + kind.len) c.if-number-ne0.true)
-          c.if-number-ne0.true) }
+          c.if-number-ne0.true);
+    }
 
 pub take_step-requires : goal.take_step-requires
 take_step-requires c =
@@ -112,19 +124,22 @@ returns-else-number-ne0 c =
     let found = sym back16.record_at.ensures ∙ kind.is in
     let going = back16.if-self.false in
     let k = kind_19 kind.kind back16.if-kind-ne19.false in
-    let l = c.take_step in record { leads = λ D q old H st noted.
+    let l = c.take_step in record {
+      leads = λ D q old H st noted.
           let s = stands_begun p.playable begun (λ D p old. b.ensures D p a.agenda.now old) D H.says q old st noted in
           turn_whole D a.run.now q player a.work.now old st going _ _ _ found _ _ _ refl
           (step_passed D q begun a.work.now old s _ x.result x.ensures kind.kind k (kind.start + kind.len) if4.false _ _
           (l.ensures.leads D (begin D q) old H s
           (step_some D q begun a.work.now old s _ x.result x.ensures kind.kind k (kind.start + kind.len) if4.false)
-          (begun_tally D q) (noted_begun D _ _ q noted))); noted = λ D q old H st noted.
+          (begun_tally D q) (noted_begun D _ _ q noted)));
+      noted = λ D q old H st noted.
           let s = stands_begun p.playable begun (λ D p old. b.ensures D p a.agenda.now old) D H.says q old st noted in
           turn_noted D a.run.now q player a.work.now old st going _ _ _ found _ refl a.head.now _
           (noted_of D _ _ q _ (kind.start + kind.len) kind.kind step_record k
           (noted_step_record D _ _ q _ _ (l.ensures.noted D (begin D q) old H s
           (step_some D q begun a.work.now old s _ x.result x.ensures kind.kind k (kind.start + kind.len) if4.false)
-          (begun_tally D q) (noted_begun D _ _ q noted)))) }
+          (begun_tally D q) (noted_begun D _ _ q noted))));
+    }
 
 pub returns-in-Cut : goal.returns-in-Cut
 returns-in-Cut c =
@@ -132,12 +147,15 @@ returns-in-Cut c =
     let if1 = c.if-self in
     let record-at = c.record_at in
     let a = back8.args in
-    let player = whole_in a.self a.agenda.now in record { leads = λ D q old H st noted. turn_cut D a.run.now q player a.work.now old st if1.false
-          (sym record-at.ensures ∙ c.in-Cut.is); noted = λ D q old H st noted.
+    let player = whole_in a.self a.agenda.now in record {
+      leads = λ D q old H st noted. turn_cut D a.run.now q player a.work.now old st if1.false
+          (sym record-at.ensures ∙ c.in-Cut.is);
+      noted = λ D q old H st noted.
           noted_ended D a.head.now a.index.now (play_step D a.run.now q) (record { number = 50; player = player })
           a.work.now old
           (turn_cut D a.run.now q player a.work.now old st if1.false (sym record-at.ensures ∙ c.in-Cut.is))
-          (λ z. omega arith) }
+          (λ z. omega arith);
+    }
 
 pub returns-in-End : goal.returns-in-End
 returns-in-End c =
@@ -145,9 +163,12 @@ returns-in-End c =
     let if1 = c.if-self in
     let record-at = c.record_at in
     let a = back8.args in
-    let player = whole_in a.self a.agenda.now in record { leads = λ D q old H st noted. turn_none D a.run.now q player a.work.now old st if1.false
-          (sym record-at.ensures ∙ c.in-End.is); noted = λ D q old H st noted.
+    let player = whole_in a.self a.agenda.now in record {
+      leads = λ D q old H st noted. turn_none D a.run.now q player a.work.now old st if1.false
+          (sym record-at.ensures ∙ c.in-End.is);
+      noted = λ D q old H st noted.
           noted_ended D a.head.now a.index.now (play_step D a.run.now q) (record { number = 50; player = player })
           a.work.now old
           (turn_none D a.run.now q player a.work.now old st if1.false (sym record-at.ensures ∙ c.in-End.is))
-          (λ z. omega arith) }
+          (λ z. omega arith);
+    }

@@ -19,17 +19,20 @@ use Rattle.player.proofs.Player.take_fact.Goals as goal
 pub returns-then-number-ne0 : goal.returns-then-number-ne0
 returns-then-number-ne0 c =
     let a = c.args in
-    let f = c.fact_stop-number in record { leads = λ D q agenda old H st noted.
+    let f = c.fact_stop-number in record {
+      leads = λ D q agenda old H st noted.
           let player = whole_in a.self agenda in
           let rows = facts_rows D q player a.work.now old st H.bounded in
           let stop = f.ensures.is D q.state.facts H rows (facts_count D H.bounded q player a.work.now old st a.p.now a.behind) (few_facts D H.bounded q player a.work.now old st a.p.now a.behind)
           ∙ ap₂ (λ (n : ℕ) (b : Bool). fact_stop D n b q.state.facts a.p.now) (sym (objects_are D q st)) (sym (begun_is D q st)) in
-          stops D q player a.work.now old st (fact_stop D q.objects q.tally.begun q.state.facts a.p.now) f.result (go_on (with_fact q (fact_of a.p.now) a.behind)) stop c.if-number-ne0.true; noted = λ D q agenda old H st noted.
+          stops D q player a.work.now old st (fact_stop D q.objects q.tally.begun q.state.facts a.p.now) f.result (go_on (with_fact q (fact_of a.p.now) a.behind)) stop c.if-number-ne0.true;
+      noted = λ D q agenda old H st noted.
           let player = whole_in a.self agenda in
           let rows = facts_rows D q player a.work.now old st H.bounded in
           let stop = f.ensures.is D q.state.facts H rows (facts_count D H.bounded q player a.work.now old st a.p.now a.behind) (few_facts D H.bounded q player a.work.now old st a.p.now a.behind)
           ∙ ap₂ (λ (n : ℕ) (b : Bool). fact_stop D n b q.state.facts a.p.now) (sym (objects_are D q st)) (sym (begun_is D q st)) in
-          noted_ended D a.head.now a.index.now (unless (fact_stop D q.objects q.tally.begun q.state.facts a.p.now) q (go_on (with_fact q (fact_of a.p.now) a.behind))) (record { number = f.result; player = player }) a.work.now old (stops D q player a.work.now old st (fact_stop D q.objects q.tally.begun q.state.facts a.p.now) f.result (go_on (with_fact q (fact_of a.p.now) a.behind)) stop c.if-number-ne0.true) c.if-number-ne0.true }
+          noted_ended D a.head.now a.index.now (unless (fact_stop D q.objects q.tally.begun q.state.facts a.p.now) q (go_on (with_fact q (fact_of a.p.now) a.behind))) (record { number = f.result; player = player }) a.work.now old (stops D q player a.work.now old st (fact_stop D q.objects q.tally.begun q.state.facts a.p.now) f.result (go_on (with_fact q (fact_of a.p.now) a.behind)) stop c.if-number-ne0.true) c.if-number-ne0.true;
+    }
 
 pub fact_row-row-requires : goal.fact_row-row-requires
 fact_row-row-requires c = let all = c.fact_stop-number.ensures.fits c.if-number-ne0.false in record { relation = all.0; objects = all.1 }
@@ -42,7 +45,8 @@ returns-then-is_held c =
     let f = c.fact_stop-number in
     let row = c.fact_row-row in
     let found = c.is_held in
-    let passed = c.if-number-ne0.false in record { leads = λ D q agenda old H st noted.
+    let passed = c.if-number-ne0.false in record {
+      leads = λ D q agenda old H st noted.
           let player = whole_in a.self agenda in
           let rows = facts_rows D q player a.work.now old st H.bounded in
           let stop = f.ensures.is D q.state.facts H rows
@@ -56,7 +60,8 @@ returns-then-is_held c =
           (go_on (with_fact q (fact_of a.p.now) a.behind)) _ a.work.now old stop passed
           (fact_again D H.bounded q player a.work.now old st a.p.now a.behind zero row.result row.ensures
           found.result is if2.true (whole_in c.onward.result agenda)
-          (gone_on a.self c.onward.result a.behind a.self.state.facts a.self.state.waits agenda c.onward.ensures)); noted = λ D q agenda old H st noted.
+          (gone_on a.self c.onward.result a.behind a.self.state.facts a.self.state.waits agenda c.onward.ensures));
+      noted = λ D q agenda old H st noted.
           let player = whole_in a.self agenda in
           let rows = facts_rows D q player a.work.now old st H.bounded in
           let stop = f.ensures.is D q.state.facts H rows
@@ -69,7 +74,8 @@ returns-then-is_held c =
           noted_unless D _ _ (fact_stop D q.objects q.tally.begun q.state.facts a.p.now) q
           (go_on (with_fact q (fact_of a.p.now) a.behind))
           (noted_again D _ q (fact_of a.p.now) a.behind _
-          (fact_found (fact_of a.p.now) q.state.facts row.result _ found.result row.ensures rows is ∙ if2.true) noted) }
+          (fact_found (fact_of a.p.now) q.state.facts row.result _ found.result row.ensures rows is ∙ if2.true) noted);
+    }
 
 pub returns-then-n-ge-MAX_FACTS : goal.returns-then-n-ge-MAX_FACTS
 returns-then-n-ge-MAX_FACTS c =
@@ -79,7 +85,8 @@ returns-then-n-ge-MAX_FACTS c =
     let f = c.fact_stop-number in
     let row = c.fact_row-row in
     let found = c.is_held in
-    let passed = c.if-number-ne0.false in record { leads = λ D q agenda old H st noted.
+    let passed = c.if-number-ne0.false in record {
+      leads = λ D q agenda old H st noted.
           let player = whole_in a.self agenda in
           let rows = facts_rows D q player a.work.now old st H.bounded in
           let stop = f.ensures.is D q.state.facts H rows
@@ -91,7 +98,8 @@ returns-then-n-ge-MAX_FACTS c =
           let is = found.ensures a.head.now (rw rows noted.indexed) sized in
           let l = fact_room D H.bounded q player a.work.now old st a.p.now a.behind zero row.result row.ensures
           found.result is if2.false in
-          absurd (omega arith); noted = λ D q agenda old H st noted.
+          absurd (omega arith);
+      noted = λ D q agenda old H st noted.
           let player = whole_in a.self agenda in
           let rows = facts_rows D q player a.work.now old st H.bounded in
           let stop = f.ensures.is D q.state.facts H rows
@@ -103,7 +111,8 @@ returns-then-n-ge-MAX_FACTS c =
           let is = found.ensures a.head.now (rw rows noted.indexed) sized in
           let l = fact_room D H.bounded q player a.work.now old st a.p.now a.behind zero row.result row.ensures
           found.result is if2.false in
-          absurd (omega arith) }
+          absurd (omega arith);
+    }
 
 pub returns : goal.returns
 returns c =
@@ -115,7 +124,8 @@ returns c =
     let row = back8.fact_row-row in
     let found = back8.is_held in
     let passed = back8.if-number-ne0.false in
-    let entered = c.enter in record { leads = λ D q agenda old H st noted.
+    let entered = c.enter in record {
+      leads = λ D q agenda old H st noted.
           let player = whole_in a.self agenda in
           let rows = facts_rows D q player a.work.now old st H.bounded in
           let stop = f.ensures.is D q.state.facts H rows
@@ -130,7 +140,8 @@ returns c =
           (fact_new D H.bounded q player a.work.now old st a.p.now a.behind zero row.result row.ensures
           found.result is if2.false (whole_in c.onward-2.result agenda) _ refl
           (gone_on a.self c.onward-2.result a.behind (a.self.state.facts + 1) a.self.state.waits agenda
-          c.onward-2.ensures) _ c.put_fact.ensures); noted = λ D q agenda old H st noted.
+          c.onward-2.ensures) _ c.put_fact.ensures);
+      noted = λ D q agenda old H st noted.
           let player = whole_in a.self agenda in
           let rows = facts_rows D q player a.work.now old st H.bounded in
           let stop = f.ensures.is D q.state.facts H rows
@@ -147,4 +158,5 @@ returns c =
           noted_unless D _ _ (fact_stop D q.objects q.tally.begun q.state.facts a.p.now) q
           (go_on (with_fact q (fact_of a.p.now) a.behind))
           (noted_fact D _ q (fact_of a.p.now) a.behind _
-          (fact_found (fact_of a.p.now) q.state.facts row.result _ found.result row.ensures rows is ∙ if2.false) now) }
+          (fact_found (fact_of a.p.now) q.state.facts row.result _ found.result row.ensures rows is ∙ if2.false) now);
+    }

@@ -25,17 +25,20 @@ returns-then-number-ne0 c =
     let a = back8.args in
     let player = whole_in a.self a.agenda.now in
     let none = back8.requires.none in
-    let r = c.rest-number in record { leads = λ D q old H st b noted.
+    let r = c.rest-number in record {
+      leads = λ D q old H st b noted.
           let z = r.ensures D (run_objects q) q.state H (kept_none st.sound.kept)
           (ap (λ (h : StateRows). h.running) (state_is D q st))
           (facts_rows D q player a.work.now old st H.says.bounded) noted in
           close_stops D q a.behind player a.work.now old st r.result _ _ _ (rest_closes D q st none b r.result z.0)
-          c.if-number-ne0.true; noted = λ D q old H st b noted.
+          c.if-number-ne0.true;
+      noted = λ D q old H st b noted.
           let z = r.ensures D (run_objects q) q.state H (kept_none st.sound.kept)
           (ap (λ (h : StateRows). h.running) (state_is D q st))
           (facts_rows D q player a.work.now old st H.says.bounded) noted in
           noted_closed D _ _ q a.behind r.result (rest_closes D q st none b r.result z.0).number_is
-          (λ e. absurd (c.if-number-ne0.true e)) }
+          (λ e. absurd (c.if-number-ne0.true e));
+    }
 
 pub stepped-requires : goal.stepped-requires
 stepped-requires c =
@@ -48,15 +51,18 @@ returns c =
     let a = back8.args in
     let player = whole_in a.self a.agenda.now in
     let none = back8.requires.none in
-    let r = c.rest-number in record { leads = λ D q old H st b noted.
+    let r = c.rest-number in record {
+      leads = λ D q old H st b noted.
           let z = r.ensures D (run_objects q) q.state H (kept_none st.sound.kept)
           (ap (λ (h : StateRows). h.running) (state_is D q st))
           (facts_rows D q player a.work.now old st H.says.bounded) noted in
           close_on D q a.behind player a.work.now old st r.result _ _ _ (rest_closes D q st none b r.result z.0)
           c.if-number-ne0.false _
-          (stepped_on a.self _ a.behind a.self.state a.self.tally.weight a.agenda.now c.stepped.ensures); noted = λ D q old H st b noted.
+          (stepped_on a.self _ a.behind a.self.state a.self.tally.weight a.agenda.now c.stepped.ensures);
+      noted = λ D q old H st b noted.
           let z = r.ensures D (run_objects q) q.state H (kept_none st.sound.kept)
           (ap (λ (h : StateRows). h.running) (state_is D q st))
           (facts_rows D q player a.work.now old st H.says.bounded) noted in
           noted_closed D _ _ q a.behind r.result (rest_closes D q st none b r.result z.0).number_is
-          (λ e. rest_notes D q st none _ _ (z.1 e)) }
+          (λ e. rest_notes D q st none _ _ (z.1 e));
+    }

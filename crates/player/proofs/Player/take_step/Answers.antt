@@ -30,18 +30,21 @@ returns-then-stop-ne0 c =
     let back16 = back8 in
     let a = back16.args in
     let player = whole_in a.self a.agenda.now in
-    let l = c.step-closed in record { leads = λ D q old H st n b noted.
+    let l = c.step-closed in record {
+      leads = λ D q old H st n b noted.
           let leaves = l.ensures.leaves D (run_objects q) q.state q.waiting old
           (record { domain = H; some = some_object q n; kept = st.sound.kept; state_is = state_is D q st; facts_are = st.memory })
           (weight_under D q st b) noted in
           subst (λ (t : List ℕ). PlayLeadsTo (close_step D q a.behind)
           (record { number = l.result.number; player = whole_in a.self t })
           l.new.work old) (sym (l.ensures.refused c.if-stop-ne0.true))
-          (close_stops D q a.behind player a.work.now old st l.result.number _ l.result.weight _ leaves c.if-stop-ne0.true); noted = λ D q old H st n b noted.
+          (close_stops D q a.behind player a.work.now old st l.result.number _ l.result.weight _ leaves c.if-stop-ne0.true);
+      noted = λ D q old H st n b noted.
           let leaves = l.ensures.leaves D (run_objects q) q.state q.waiting old
           (record { domain = H; some = some_object q n; kept = st.sound.kept; state_is = state_is D q st; facts_are = st.memory })
           (weight_under D q st b) noted in
-          noted_closed D _ _ q a.behind l.result.number leaves.number_is (λ z. absurd (c.if-stop-ne0.true z)) }
+          noted_closed D _ _ q a.behind l.result.number leaves.number_is (λ z. absurd (c.if-stop-ne0.true z));
+    }
 
 pub stepped-requires : goal.stepped-requires
 stepped-requires c =
@@ -55,15 +58,18 @@ returns c =
     let back16 = back8 in
     let a = back16.args in
     let player = whole_in a.self a.agenda.now in
-    let l = back8.step-closed in record { leads = λ D q old H st n b noted.
+    let l = back8.step-closed in record {
+      leads = λ D q old H st n b noted.
           let leaves = l.ensures.leaves D (run_objects q) q.state q.waiting old
           (record { domain = H; some = some_object q n; kept = st.sound.kept; state_is = state_is D q st; facts_are = st.memory })
           (weight_under D q st b) noted in
           close_on D q a.behind player a.work.now old st l.result.number _ l.result.weight _ leaves c.if-stop-ne0.false _
-          (stepped_on a.self _ a.behind l.result.state l.result.weight l.new.agenda c.stepped.ensures); noted = λ D q old H st n b noted.
+          (stepped_on a.self _ a.behind l.result.state l.result.weight l.new.agenda c.stepped.ensures);
+      noted = λ D q old H st n b noted.
           let leaves = l.ensures.leaves D (run_objects q) q.state q.waiting old
           (record { domain = H; some = some_object q n; kept = st.sound.kept; state_is = state_is D q st; facts_are = st.memory })
           (weight_under D q st b) noted in
           noted_closed D _ _ q a.behind l.result.number leaves.number_is
           (λ z. l.ensures.noted D (run_objects q) q.state q.waiting old
-          (record { domain = H; some = some_object q n; kept = st.sound.kept; state_is = state_is D q st; facts_are = st.memory }) noted z) }
+          (record { domain = H; some = some_object q n; kept = st.sound.kept; state_is = state_is D q st; facts_are = st.memory }) noted z);
+    }

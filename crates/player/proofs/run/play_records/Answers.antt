@@ -1,5 +1,5 @@
 use mathlib.Core.Path.{refl, ap, ◌∙◌}
-use Prim.Native.Nat.{ℕ, ◌-◌}
+use Prim.Native.Nat.{ℕ}
 use lib.ListN.{length, length-replicate}
 use Rattle.events.specs.Held.{agenda_bytes, agenda_open}
 use Rattle.player.specs.declared.run.Ended.{Ended}
@@ -23,11 +23,14 @@ step-turn-requires c =
     let back8 = c in
     let p = back8.requires in
     let a = back8.args in
-    let l = c.loop-number in record { playable = playable p.domain p.room a.run.now (whole_in l.turn.player l.agenda) l.work l.index
-          (l.invariant.3 p.domain.0 a.work.now p.domain.1 p.no_fact p.index p.agenda); memory = record {
+    let l = c.loop-number in record {
+      playable = playable p.domain p.room a.run.now (whole_in l.turn.player l.agenda) l.work l.index
+          (l.invariant.3 p.domain.0 a.work.now p.domain.1 p.no_fact p.index p.agenda);
+      memory = record {
         agenda_length = l.invariant.1 ∙ ap length p.agenda ∙ length-replicate {A = ℕ} agenda_bytes 0;
         scratch_length = l.invariant.2 ∙ p.scratch;
-      } }
+      };
+    }
 
 pub loop-number-smaller : goal.loop-number-smaller
 loop-number-smaller c =

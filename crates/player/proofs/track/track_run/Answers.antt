@@ -53,8 +53,12 @@ total_of-total-requires c =
     let n = ap (λ (x : Ended). x.facts) e.0 in
     let k = (kept_run D H.says.bounded a.run.now).1.facts_few in
     let room = p.room in
-    let l = play-run.auto.work in record { few = omega arith; facts = omega arith; agenda = play-run.auto.agenda ∙
-            length-replicate {A = ℕ} agenda_bytes 0 }
+    let l = play-run.auto.work in record {
+      few = omega arith;
+      facts = omega arith;
+      agenda = play-run.auto.agenda ∙
+          length-replicate {A = ℕ} agenda_bytes 0;
+    }
 
 pub returns : goal.returns
 returns c D H wf =

@@ -1,5 +1,5 @@
 use mathlib.Core.Path.{refl}
-use Prim.Native.Nat.{◌-◌, ◌<◌}
+use Prim.Native.Nat.{◌<◌}
 use native.Mathlib.Omega.{arith}
 use lib.ListN.{length}
 use Rattle.naming.proofs.NamedRows.{noted_action}
@@ -32,6 +32,9 @@ loop-i-preserved c =
 
 pub returns : goal.returns
 returns c =
-    let few = c.actions_in-i-end.ensures.number in record { few = number_byte _ c.decide-decided.ensures; number = λ D H wf only.
+    let few = c.actions_in-i-end.ensures.number in record {
+      few = number_byte _ c.decide-decided.ensures;
+      number = λ D H wf only.
           let m = H.says.actions in
-          decides D c.loop-i.i (c.loop-i.invariant.noted D H wf only) (omega arith) c.decide-decided.ensures }
+          decides D c.loop-i.i (c.loop-i.invariant.noted D H wf only) (omega arith) c.decide-decided.ensures;
+    }

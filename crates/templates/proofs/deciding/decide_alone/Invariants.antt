@@ -1,5 +1,4 @@
 -- `decide_alone` meets its contract. The loop's invariant is `Deciding` of proofs/Alone. Assumes nothing.
-use Prim.Native.Nat.{◌-◌}
 use Rattle.templates.proofs.Alone.{Deciding}
 use Rattle.templates.proofs.deciding.decide_alone.Given as goal
 

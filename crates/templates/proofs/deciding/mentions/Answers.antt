@@ -1,7 +1,6 @@
 use native.Mathlib.Omega.{arith}
 use borrow.Author.Tests.{eq-eqb, ne_eqb}
 use mathlib.Core.Path.{sym, ap, ◌∙◌}
-use Prim.Native.Nat.{◌-◌}
 use Rattle.records.specs.Lists.{any}
 use Rattle.literals.proofs.Indices.{left_all, any_hit, any_miss, any_end}
 use Rattle.templates.specs.Held.{mentioned_at}

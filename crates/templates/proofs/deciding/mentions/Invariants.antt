@@ -1,6 +1,5 @@
 -- `mentions` meets its contract: no row before j has the relation, so the test is that of the rows left. Assumes nothing.
 use mathlib.Core.Path.{◌≡◌}
-use Prim.Native.Nat.{◌-◌}
 use Rattle.records.specs.Lists.{any, below}
 use Rattle.literals.proofs.Indices.{left}
 use Rattle.templates.specs.Held.{mentioned_at}

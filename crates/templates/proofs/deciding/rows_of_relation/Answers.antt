@@ -1,5 +1,4 @@
 use mathlib.Core.Path.{◌≡◌, ap, ◌∙◌}
-use Prim.Native.Nat.{◌-◌}
 use native.Mathlib.Omega.{arith}
 use Rattle.templates.specs.Held.{rows_of_relation}
 use Rattle.templates.proofs.Narrowed.{keeping_none, keeping_length, keeping_all, keeping_more}

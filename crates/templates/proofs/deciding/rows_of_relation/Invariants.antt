@@ -1,5 +1,5 @@
 -- `rows_of_relation` meets its contract: of the rows before j those with the relation are kept. Assumes nothing.
-use Prim.Native.Nat.{◌-◌, ◌≤◌}
+use Prim.Native.Nat.{◌≤◌}
 use Rattle.templates.proofs.Narrowed.{Keeping}
 use Rattle.templates.proofs.deciding.rows_of_relation.Given as goal
 

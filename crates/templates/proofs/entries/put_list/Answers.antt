@@ -1,5 +1,5 @@
 use mathlib.Core.Path.{refl, ◌∙◌}
-use Prim.Native.Nat.{◌-◌, ◌<◌}
+use Prim.Native.Nat.{◌<◌}
 use native.Mathlib.Omega.{arith}
 use lib.ListN.{length}
 use Rattle.templates.proofs.EntryBytes.{relations_next, relations_all}
@@ -47,6 +47,9 @@ pub returns : goal.returns
 returns c =
     let l = c.loop-relation in
     let n = c.relations_in-relation-end.ensures.number in
-    let m = c.relations_in-relation-end.ensures.few in record { few = (let f = l.invariant.few in let q = l.invariant.reach in omega arith); entries = λ D old B L.
+    let m = c.relations_in-relation-end.ensures.few in record {
+      few = (let f = l.invariant.few in let q = l.invariant.reach in omega arith);
+      entries = λ D old B L.
           let a = n ∙ B.holds.filled.says.relations in
-          relations_all D l.relation (omega arith) (l.invariant.listing D old B L) }
+          relations_all D l.relation (omega arith) (l.invariant.listing D old B L);
+    }

@@ -1,5 +1,4 @@
 -- `put_list` meets its contract. The loop's invariant is `InRelations` of proofs/EntryBytes. Assumes nothing.
-use Prim.Native.Nat.{◌-◌}
 use Rattle.templates.proofs.EntryBytes.{InRelations}
 use Rattle.templates.proofs.entries.put_list.Given as goal
 

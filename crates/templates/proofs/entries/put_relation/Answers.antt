@@ -1,7 +1,7 @@
 use mathlib.Core.Path.{refl, ◌∙◌}
 use mathlib.Core.Logic.{inl, inr}
 use mathlib.Core.List.{◌++◌, ◌∷◌, []}
-use Prim.Native.Nat.{◌-◌, ◌<◌}
+use Prim.Native.Nat.{◌<◌}
 use native.Mathlib.Omega.{arith}
 use Rattle.literals.specs.Domain.{arity}
 use Rattle.templates.specs.Held.{shape_of}
@@ -59,8 +59,11 @@ returns c =
     let n = arity-of.ensures.number in
     let m = arity-of.ensures.few in
     let first = c.put_entry-end in
-    let r = back8.args.relation in record { few = (let f = l.invariant.few in let e = first.ensures.few in let q = l.invariant.reach in omega arith); entries = λ D ss old B h L.
+    let r = back8.args.relation in record {
+      few = (let f = l.invariant.few in let e = first.ensures.few in let q = l.invariant.reach in omega arith);
+      entries = λ D ss old B h L.
           let a = n ∙ B.holds.filled.says.arities r in
           let q = l.invariant.reach in
           places_all ss r l.place (omega arith)
-          (l.invariant.listing D (ss ++ (shape_of r 255 ∷ [])) old B h (first.ensures.entry D ss old B h (inl refl) L)) }
+          (l.invariant.listing D (ss ++ (shape_of r 255 ∷ [])) old B h (first.ensures.entry D ss old B h (inl refl) L));
+    }

@@ -1,5 +1,4 @@
 -- `put_relation` meets its contract. The loop's invariant is `InPlaces` of proofs/EntryBytes. Assumes nothing.
-use Prim.Native.Nat.{◌-◌}
 use Rattle.templates.proofs.EntryBytes.{InPlaces}
 use Rattle.templates.proofs.entries.put_relation.Given as goal
 

@@ -1,5 +1,4 @@
 use mathlib.Core.Path.{sym, ◌∙◌}
-use Prim.Native.Nat.{◌-◌}
 use native.Mathlib.Omega.{arith}
 use Rattle.totals.proofs.Loops.{pass_none, file_within, pass_file, pass_cut, pass_end}
 use Rattle.totals.proofs.boxes.open_box.Goals as goal

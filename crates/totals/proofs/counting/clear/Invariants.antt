@@ -1,6 +1,6 @@
 -- `counting::clear` meets its contract. The loop's invariant: the bytes passed are clear. Assumes nothing.
 use mathlib.Core.Path.{◌≡◌}
-use Prim.Native.Nat.{◌-◌, ◌≤◌}
+use Prim.Native.Nat.{◌≤◌}
 use lib.ListN.{length, replicate}
 use Rattle.records.specs.Memory.{over}
 use Rattle.totals.proofs.counting.clear.Given as goal

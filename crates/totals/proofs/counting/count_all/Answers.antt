@@ -1,5 +1,4 @@
 use mathlib.Core.Path.{refl, ◌∙◌}
-use Prim.Native.Nat.{◌-◌}
 use native.Mathlib.Omega.{arith}
 use Rattle.totals.proofs.Files.{walked_none, walked_sized, walked_end, file_fits, file_room, walked_more}
 use Rattle.totals.proofs.counting.count_all.Goals as goal

@@ -24,9 +24,13 @@ count_names-end-requires c =
     let start = back16.args in
     let asked = back16.requires in
     let told = judge.ensures in
-    let after = c.add_one.ensures in record { totals = ap length after ∙ more_length start.counts.now judge.result.number ∙ asked.totals; names = names_known start.file.now start.report.now start.witness.now asked.rows asked.facts asked.cleared
-            told.reported; room = names_room start.file.now start.report.now start.witness.now asked.rows asked.facts asked.cleared
-            told.reported told.answer start.counts.now asked.totals after asked.room }
+    let after = c.add_one.ensures in record {
+      totals = ap length after ∙ more_length start.counts.now judge.result.number ∙ asked.totals;
+      names = names_known start.file.now start.report.now start.witness.now asked.rows asked.facts asked.cleared
+          told.reported;
+      room = names_room start.file.now start.report.now start.witness.now asked.rows asked.facts asked.cleared
+          told.reported told.answer start.counts.now asked.totals after asked.room;
+    }
 
 pub clear-requires : goal.clear-requires
 clear-requires c =
@@ -46,6 +50,9 @@ returns c =
     let start = back24.args in
     let asked = back24.requires in
     let told = back16.judge-answer.ensures in
-    let names = c.count_names-end.ensures in record { counted = marks_counted start.file.now start.report.now start.witness.now asked.rows asked.facts asked.cleared
-          told.reported told.answer _ _ _ back8.add_one.ensures names.counted; cleared = c.clear.ensures ∙ cleared start.file.now start.report.now start.witness.now asked.rows
-          asked.facts asked.cleared told.reported names.rows }
+    let names = c.count_names-end.ensures in record {
+      counted = marks_counted start.file.now start.report.now start.witness.now asked.rows asked.facts asked.cleared
+          told.reported told.answer _ _ _ back8.add_one.ensures names.counted;
+      cleared = c.clear.ensures ∙ cleared start.file.now start.report.now start.witness.now asked.rows
+          asked.facts asked.cleared told.reported names.rows;
+    }

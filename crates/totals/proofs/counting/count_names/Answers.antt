@@ -1,5 +1,4 @@
 use mathlib.Core.Path.{refl, sym, ◌∙◌}
-use Prim.Native.Nat.{◌-◌}
 use native.Mathlib.Omega.{arith}
 use Rattle.totals.proofs.Reported.{names_none, names_short}
 use Rattle.totals.proofs.Walks.{none_counted, all_counted, name_known, name_room, one_counted}

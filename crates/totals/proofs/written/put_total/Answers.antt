@@ -1,5 +1,4 @@
 use mathlib.Core.Path.{refl}
-use Prim.Native.Nat.{◌-◌}
 use native.Mathlib.Omega.{arith}
 use Rattle.totals.proofs.Walks.{writing_none, writing_more, written_all}
 use Rattle.totals.proofs.written.put_total.Goals as goal

@@ -1,5 +1,4 @@
 -- `written::put_total` meets its contract. The loop's invariant: so many bytes of the total stand. Assumes nothing.
-use Prim.Native.Nat.{◌-◌}
 use Rattle.totals.proofs.Walks.{Writing}
 use Rattle.totals.proofs.written.put_total.Given as goal
 

@@ -1,6 +1,6 @@
 -- `written::put_totals` meets its contract. The loop's invariant: the totals passed stand. Assumes nothing.
 use mathlib.Core.Path.{◌≡◌}
-use Prim.Native.Nat.{◌-◌, ◌≤◌}
+use Prim.Native.Nat.{◌≤◌}
 use lib.ListN.{length, take}
 use Rattle.records.specs.Memory.{over}
 use Rattle.totals.specs.Totals.{total_bytes}

@@ -1,5 +1,5 @@
 use mathlib.Core.Path.{◌≡◌, refl, subst, ◌∙◌}
-use Prim.Native.Nat.{ℕ, ◌-◌, ◌<◌}
+use Prim.Native.Nat.{ℕ, ◌<◌}
 use native.Mathlib.Omega.{arith}
 use lib.ListN.{length}
 use Rattle.trying.specs.Held.{Making}
@@ -57,7 +57,10 @@ returns c =
     let n = c.actions_in-i-end.ensures.number in
     let m = c.actions_in-i-end.ensures.few in
     let f = l.invariant.few in
-    let q = l.invariant.reach in record { few = omega arith; answers = λ D old H wf M.
+    let q = l.invariant.reach in record {
+      few = omega arith;
+      answers = λ D old H wf M.
           let a = n ∙ H.says.actions in
           let e : l.i ≡ length D.actions = omega arith in
-          subst (λ (k : ℕ). Making D k l.end l.made old) e (l.invariant.making D old H wf M) }
+          subst (λ (k : ℕ). Making D k l.end l.made old) e (l.invariant.making D old H wf M);
+    }

@@ -1,5 +1,4 @@
 -- `try_actions` meets its contract. The loop's invariant is `InActions` of proofs/Answering. Assumes nothing.
-use Prim.Native.Nat.{◌-◌}
 use Rattle.trying.proofs.Answering.{InActions}
 use Rattle.trying.proofs.actions.try_actions.Given as goal
 

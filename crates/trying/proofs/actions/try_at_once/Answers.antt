@@ -28,9 +28,12 @@ returns c =
     let a = back16.args in
     let r = back16.requires.room in
     let w = c.answer_rows-count in
-    let k = w.ensures.few in record { few = omega arith; answers = λ D old H wf h M l.
+    let k = w.ensures.few in record {
+      few = omega arith;
+      answers = λ D old H wf h M l.
           let S = back8.rows_of-span.ensures.rows D H h in
           let L =
           back8.step_alone-alone.ensures.alone D H wf h in
           let t = w.ensures.answers D a.i (action_held H wf a.i h S.literals) wf h L in
-          making_more D a.i h l M (a.at + 64) w.result refl r t.0 k _ t.2 }
+          making_more D a.i h l M (a.at + 64) w.result refl r t.0 k _ t.2;
+    }

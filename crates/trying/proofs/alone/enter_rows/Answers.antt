@@ -1,5 +1,4 @@
 use mathlib.Core.Path.{◌≡◌}
-use Prim.Native.Nat.{◌-◌}
 use native.Mathlib.Omega.{arith}
 use Rattle.trying.proofs.Loops.{enter_more}
 use Rattle.trying.proofs.alone.enter_rows.Goals as goal

@@ -1,5 +1,5 @@
 -- `enter_rows` meets its contract: after i turns the first i rows are entered. Assumes nothing.
-use Prim.Native.Nat.{◌-◌, ◌≤◌}
+use Prim.Native.Nat.{◌≤◌}
 use Rattle.trying.proofs.Loops.{Entering}
 use Rattle.trying.proofs.alone.enter_rows.Given as goal
 

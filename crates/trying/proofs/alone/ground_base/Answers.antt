@@ -24,9 +24,12 @@ returns c =
     let e = c.step_effects-held in
     let v = c.variables_of in
     let part = g.new.memory in
-    let put = literals_put part _ (g.auto.memory ∙ literals_length a.base.now back8.requires.base) in record { few = (v.ensures.few, g.ensures.few, rows_few 1 g.result e.result _ g.ensures.few e.ensures.count); base = λ D H wf h.
+    let put = literals_put part _ (g.auto.memory ∙ literals_length a.base.now back8.requires.base) in record {
+      few = (v.ensures.few, g.ensures.few, rows_few 1 g.result e.result _ g.ensures.few e.ensures.count);
+      base = λ D H wf h.
           base_held D wf a.i h (record { variables = v.result; literals = g.result; held = e.result }) (put_mid 0 grounded_bytes a.base.now part)
           e.new.scratch
           (v.ensures.number ∙ H.says.variables a.i h)
           (subst (λ (t : List ℕ). Grounded D a.head.now (plain_event D a.i ∷ []) t g.result) (sym put) (g.ensures.grounded D H h))
-          e.ensures.rows e.ensures.literals }
+          e.ensures.rows e.ensures.literals;
+    }

@@ -41,7 +41,9 @@ returns c =
     let x = c.facts_after-left in
     let copy = back8.put_bytes in
     let same = copied a.base.now a.after.now copy.new.out p.base p.after copy.ensures in
-    let long = x.auto.scratch ∙ copy.auto.out ∙ p.after in record { few = record { variables = p.variables; literals = p.literals; held = p.held; left = x.ensures.few.2 }; alone = λ D i wf h B.
+    let long = x.auto.scratch ∙ copy.auto.out ∙ p.after in record {
+      few = record { variables = p.variables; literals = p.literals; held = p.held; left = x.ensures.few.2 };
+      alone = λ D i wf h B.
           let objs = plain_objects D i in
           let H = B.grounded.says in
           let C = chosen D wf i h H.bounded in
@@ -57,4 +59,5 @@ returns c =
                 c.events_met-allowed.ensures D a.head.now (plain_event D i ∷ []) (held_facts D i) B.grounded B.held I objs C
                 ∙ allowed_is D wf i h H.bounded;
             left = left_rows D wf i h H.bounded x.new.scratch (omega arith) A.held x.result.facts A.facts;
-          } }
+          };
+    }

@@ -15,7 +15,9 @@ returns c =
     let p = back16.requires in
     let n = back8.number_classes-count in
     let k = n.ensures.few in
-    let few : n.result ≤ length a.made.now = omega arith in record { few = omega arith; answers = λ D i A wf h L.
+    let few : n.result ≤ length a.made.now = omega arith in record {
+      few = omega arith;
+      answers = λ D i A wf h L.
           let s = n.ensures.classes D (action D i) A in
           let C : ClassesOf D i a.head.now a.alone a.base.now a.after.now a.rows.now n.new.numbers =
           record { whole = A; numbers_are = s.1; formed = wf; listed = h; alone = L } in (
@@ -23,4 +25,5 @@ returns c =
             s.1,
             answers_front C a.made.now n.result s.0 few _
                 (c.put_answers.ensures D i C (part_size C a.made.now n.result s.0 few)),
-          ) }
+          );
+    }

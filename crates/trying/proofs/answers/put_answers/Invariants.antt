@@ -1,7 +1,7 @@
 -- `put_answers` meets its contract: after j turns the first j answers are written. Assumes nothing.
 use mathlib.Core.Path.{◌≡◌}
 use mathlib.Core.List.{List}
-use Prim.Native.Nat.{ℕ, ◌-◌, ◌≤◌}
+use Prim.Native.Nat.{ℕ, ◌≤◌}
 use lib.ListN.{length}
 use lib.Seq.{paste}
 use Rattle.literals.specs.Domain.{Domain, action}

@@ -1,6 +1,6 @@
 -- `any_free` meets its contract: no component before c has such a fact, so the test is that of the components left. Assumes nothing.
 use mathlib.Core.Path.{◌≡◌}
-use Prim.Native.Nat.{◌-◌, ◌≤◌}
+use Prim.Native.Nat.{◌≤◌}
 use Rattle.records.specs.Lists.{any}
 use Rattle.literals.specs.Held.{components_in}
 use Rattle.literals.proofs.Indices.{left}

@@ -1,5 +1,4 @@
 use mathlib.Core.Path.{◌≡◌, ap, ◌∙◌}
-use Prim.Native.Nat.{◌-◌}
 use native.Mathlib.Omega.{arith}
 use Rattle.trying.proofs.Loops.{row_up_to, row_more, row_whole}
 use Rattle.trying.proofs.plain.plain_row.Goals as goal
