@@ -1,8 +1,8 @@
 /*
  * goadlotus: judging a domain file, playing a run, also with an instance that is followed, listing the
  * templates of a single component, trying the facts themselves, and counting a box of files. The library
- * is libgoadlotus.a, in lib/ of a release, and in target/staticlib/ of a checkout, where
- * `rt staticlib goadlotus` writes it; it links into x86-64 programs.
+ * is libgoadlotus.a, in lib/ of a release, and in crates/goadlotus/out/ of a checkout, where `rt lib`,
+ * called in crates/goadlotus, writes it; it links into x86-64 programs.
  *
  * goadlotus_judge_file and goadlotus_play_files, at the end, bring the memory and say how many rows and
  * facts were written; goadlotus_judge and goadlotus_play work in memory that the caller lends. In the

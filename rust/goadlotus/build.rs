@@ -26,8 +26,8 @@ fn folder() -> Result<PathBuf, String> {
     let here = env::var_os("CARGO_MANIFEST_DIR").ok_or("CARGO_MANIFEST_DIR is missing: run this through cargo")?;
     let beside = |path| with_library(&Path::new(&here).join(path));
     // a checkout has the one, a release the other
-    beside("../../target/staticlib").or_else(|| beside("../../lib")).ok_or_else(|| {
-        format!("{LIBRARY} is missing: run rt staticlib goadlotus in a checkout, or set GOADLOTUS_LIB to the folder that has it")
+    beside("../../crates/goadlotus/out").or_else(|| beside("../../lib")).ok_or_else(|| {
+        format!("{LIBRARY} is missing: run rt lib in crates/goadlotus of a checkout, or set GOADLOTUS_LIB to the folder that has it")
     })
 }
 

@@ -70,20 +70,20 @@ fn wrong_answers_are_noticed() {
     };
     assert_eq!(
         wrong(&cases, wordy, playing::library, TRY.library),
-        ["m10-judged", "bounded-later", "first-bounded", "no-witness", "beside-journey"]
+        ["m10_judged", "bounded_later", "first_bounded", "no_witness", "beside_journey"]
     );
     let eager = |domain: &[u8], run: &[u8], work: &mut [u8]| {
         let played = playing::library(domain, run, work);
         playing::Played { steps: played.steps + (played.number == 57) as u64, ..played }
     };
-    let not_open = ["open-before-condition", "open-twice", "not-yet-open", "other-entry", "first-end-asked"];
-    assert_eq!(wrong(&cases, judge, eager, TRY.library), [&not_open[..], &["open-33-not-open"]].concat());
+    let not_open = ["open_before_condition", "open_twice", "not_yet_open", "other_entry", "first_end_asked"];
+    assert_eq!(wrong(&cases, judge, eager, TRY.library), [&not_open[..], &["open_33_not_open"]].concat());
     let mild = |file: &[u8], memory: &mut [u8]| {
         let served = (TRY.library)(file, memory);
         memory.iter_mut().for_each(|byte| *byte -= (*byte == 1) as u8);
         served
     };
-    let yes = ["m3-tried", "m4-tried", "m5-tried", "m7-tried", "spare-tried", "lacks-tried"];
-    let also = ["classes-tried", "other-tried"];
+    let yes = ["m3_tried", "m4_tried", "m5_tried", "m7_tried", "spare_tried", "lacks_tried"];
+    let also = ["classes_tried", "other_tried"];
     assert_eq!(wrong(&cases, judge, playing::library, mild), [&yes[..], &also].concat());
 }

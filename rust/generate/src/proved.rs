@@ -145,7 +145,8 @@ impl Definitions {
         for declaration in declarations(text) {
             let Some((head, body)) = declaration.split_once('=') else { continue };
             let words: Vec<&str> = head.split_whitespace().collect();
-            let is_plain = |word: &&str| word.chars().all(char::is_alphanumeric) && !["zero", "suc"].contains(word);
+            let is_name = |word: &str| word.chars().all(|c| c.is_alphanumeric() || c == '_');
+            let is_plain = |word: &&str| is_name(word) && !["zero", "suc"].contains(word);
             let is_proof = body.trim_start().starts_with("record") && words.len() == 1;
             if words.is_empty() || head.contains(':') || is_proof || !words.iter().all(is_plain) {
                 continue;
@@ -359,14 +360,14 @@ impl Value {
                 Value::Call(Box::new(Call::Judge { file: bytes(0), report: bytes(1), witness: bytes(2) }))
             }
             ("playing", 3) => Value::Call(Box::new(Call::Play { domain: bytes(0), run: bytes(1), work: bytes(2) })),
-            ("triedFile" | "triedAfter", 2) => Value::Call(Box::new(Call::Try { file: bytes(0), memory: bytes(1) })),
-            ("answerAt", 2) => {
+            ("tried_file" | "tried_after", 2) => Value::Call(Box::new(Call::Try { file: bytes(0), memory: bytes(1) })),
+            ("answer_at", 2) => {
                 let fields = [("number", &arguments[0]), ("first", &arguments[1])];
                 Value::Record(fields.map(|(name, value)| (name.to_string(), value.clone())).into())
             }
-            ("length" | "held" | "ofRun" | "ofDomain", 0) | ("ofRun" | "ofDomain", 1) => self,
+            ("length" | "held" | "of_run" | "of_domain", 0) | ("of_run" | "of_domain", 1) => self,
             ("replicate" | "over" | "zeroed" | "each", 0 | 1) | ("judging" | "playing", 0..=2) => self,
-            ("triedFile" | "triedAfter" | "answerAt", 0 | 1) => self,
+            ("tried_file" | "tried_after" | "answer_at", 0 | 1) => self,
             _ => {
                 let definition = scope.definitions.0.get(name)?;
                 if arguments.len() < definition.parameters.len() {
@@ -438,7 +439,7 @@ impl Value {
             return Left::Tried { number, first: places[0], memory: self.field("memory").bytes() };
         }
         let Value::Partial(file, at) = self.field("part") else { panic!("no part") };
-        let part = Part { of_domain: file == "ofDomain", at: at[0].number(), bytes: self.field("bytes").bytes() };
+        let part = Part { of_domain: file == "of_domain", at: at[0].number(), bytes: self.field("bytes").bytes() };
         Left::Played {
             number,
             places,
@@ -461,21 +462,21 @@ mod tests {
         let count = |group| all.cases.iter().filter(|case| case.group == group).count();
         let groups = ["Samples", "Names", "Room", "Refusals", "Refused", "Steps", "RunFiles", "Parts", "TriedCases"];
         assert_eq!(groups.map(count), [12, 62, 12, 74, 30, 76, 54, 7, 16]);
-        let limits = ["facts-1024", "facts-1025", "start-1024", "start-1025", "start-repeated", "start-outside"]
+        let limits = ["facts_1024", "facts_1025", "start_1024", "start_1025", "start_repeated", "start_outside"]
             .map(String::from);
         let others = [
-            "m1-is-listed",
+            "m1_is_listed",
             "roles",
-            "lamps-accepted",
-            "jobs-accepted",
-            "moves-refused",
-            "fillings-refused",
-            "counted-refused",
+            "lamps_accepted",
+            "jobs_accepted",
+            "moves_refused",
+            "fillings_refused",
+            "counted_refused",
         ]
         .map(String::from);
-        let over_objects = ["one-each", "no-object", "apart", "together"].map(String::from);
+        let over_objects = ["one_each", "no_object", "apart", "together"].map(String::from);
         // half of what a call leaves, each
-        let of_trying = ["short-tried", "short-untouched"].map(String::from);
+        let of_trying = ["short_tried", "short_untouched"].map(String::from);
         assert_eq!(all.others, [&others[..], &limits, &over_objects, &of_trying].concat());
     }
 
@@ -483,14 +484,14 @@ mod tests {
     #[test]
     fn m1_is_listed() {
         let all = Cases::read();
-        assert_eq!(all.file("m1"), all.file("m1Bytes"));
+        assert_eq!(all.file("m1"), all.file("m1_bytes"));
         assert_eq!(all.file("m1"), include_bytes!("../../../crates/list_samples/data/m1"));
     }
 
     /// A case written out by hand.
     #[test]
     fn a_case_in_bytes() {
-        let case = Cases::read().case("Refusals", "payload-cut").clone();
+        let case = Cases::read().case("Refusals", "payload_cut").clone();
         let file = vec![1, 0, 1, 0, 1, 1, 0, 1, 0];
         assert_eq!(case.call, Call::Judge { file, report: vec![9; 24], witness: vec![9; 24] });
         let left = Left::Judged { number: 10, places: [5, 0, 0], report: vec![9; 24], witness: vec![9; 24] };

@@ -178,12 +178,19 @@ const STEPS: [(&str, &[&str]); 7] = [
 const RUN_FILES: [(&str, &[&str]); 2] =
     [("lamps", &["event-waits", "event-object", "bound-twice"]), ("calm", &["event-17", "event-repeated"])];
 
+/// The case whose file a sample is, named as names are written in the definitions: the sample no-row is the case `no_row`.
+fn case_of(sample: &str) -> String {
+    let name = sample.replace('-', "_");
+    // a theorem, or a case, that a definition has the name of
+    if ["second_class", "no_component"].contains(&name.as_str()) { name + "_lem" } else { name }
+}
+
 /// Cases that are proved of the definitions, on their very bytes.
 fn proved(samples: &mut Samples) {
     let cases = Cases::read();
     for (group, names) in [("Names", &RULES[..]), ("Refusals", &BROKEN)] {
         for &name in names {
-            let Call::Judge { file, .. } = &cases.case(group, name).call else { panic!("{name} isn't judged") };
+            let Call::Judge { file, .. } = &cases.case(group, &case_of(name)).call else { panic!("{name} isn't judged") };
             samples.domains.push(Domain { name, file: file.clone() });
         }
     }
@@ -192,7 +199,7 @@ fn proved(samples: &mut Samples) {
     }
     for (group, runs) in [("Steps", &STEPS[..]), ("RunFiles", &RUN_FILES)] {
         for (of, name) in runs.iter().flat_map(|(of, names)| names.iter().map(move |name| (*of, *name))) {
-            let Call::Play { domain, run, .. } = &cases.case(group, name).call else { panic!("{name} isn't played") };
+            let Call::Play { domain, run, .. } = &cases.case(group, &case_of(name)).call else { panic!("{name} isn't played") };
             assert_eq!(domain, cases.file(of), "{name} isn't a run of {of}");
             samples.runs.push(Run { name, of, file: run.clone() });
         }

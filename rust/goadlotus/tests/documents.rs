@@ -17,12 +17,12 @@ fn read(root: &Path, file: &str) -> String {
     fs::read_to_string(root.join(file)).unwrap_or_else(|why| panic!("{file}: {why}"))
 }
 
-/// The texts of all files with this ending below a folder, target/ left out.
+/// The texts of all files with this ending below a folder, target/ and out/, where rt and cargo build, left out.
 fn sources(folder: &Path, ending: &str) -> Vec<String> {
     let mut found = Vec::new();
     for entry in fs::read_dir(folder).into_iter().flatten() {
         let path = entry.expect("an entry").path();
-        if path.is_dir() && !path.ends_with("target") {
+        if path.is_dir() && !path.ends_with("target") && !path.ends_with("out") {
             found.extend(sources(&path, ending));
         } else if path.to_str().is_some_and(|p| p.ends_with(ending)) {
             found.push(fs::read_to_string(&path).expect("a source"));
@@ -243,7 +243,7 @@ fn theorems_cases_and_tests_are_there() {
 
 #[test]
 fn theorems_are_in_their_files() {
-    // "`leaves-30`, `leaves-31`, judging Calls": crates/judging/proofs/Calls.antt
+    // "`leaves_30`, `leaves_31`, judging Calls": crates/judging/proofs/Calls.antt
     let root = root();
     let text = read(&root, PROOFS);
     let mut tried = 0;
@@ -345,10 +345,10 @@ fn links_lead_somewhere() {
 fn a_wrong_citation_is_noticed() {
     let root = root();
     let lacking = |text| missing(&root, text).0;
-    assert!(lacking("literals/Decode `decode`, `stopOf` and `readStep`; `crates/literals/src/lib.rt`").is_empty());
-    assert_eq!(lacking("literals/Decode `decode`, `decoded-twice`; .."), ["literals/Decode `decoded-twice`"]);
+    assert!(lacking("literals/Decode `decode`, `stop_of` and `read_step`; `crates/literals/src/lib.rt`").is_empty());
+    assert_eq!(lacking("literals/Decode `decode`, `decoded_twice`; .."), ["literals/Decode `decoded_twice`"]);
     // used there, and defined elsewhere
-    assert_eq!(lacking("run_semantics/Play `playRun`, `factStop`"), ["run_semantics/Play `factStop`"]);
+    assert_eq!(lacking("run_semantics/Play `play_run`, `fact_stop`"), ["run_semantics/Play `fact_stop`"]);
     assert_eq!(lacking("literals/Nowhere `decode`"), ["literals/Nowhere"]);
     assert_eq!(lacking("in `crates/literals/src/none.rt`"), ["crates/literals/src/none.rt"]);
     assert!(

@@ -50,7 +50,7 @@ impl Compiled {
         let out = Command::new("cc")
             .args(["-std=c99", "-pedantic", "-Wall", "-Wextra", "-Werror", "-I"])
             .args([&root.join("include"), Path::new("-o"), &program])
-            .args([root.join(source), root.join("target/staticlib/libgoadlotus.a")])
+            .args([root.join(source), root.join("crates/goadlotus/out/libgoadlotus.a")])
             .output()
             .unwrap_or_else(|e| panic!("cc doesn't start, and this test needs a C compiler of that name: {e}"));
         assert!(out.status.success(), "cc refuses {source}:\n{}", String::from_utf8_lossy(&out.stderr));
@@ -157,7 +157,7 @@ fn readme_shows_what_is_printed() {
     assert_eq!(words, ["list", "judge", "explain", "play"]);
     let listing = fs::read_to_string(root.join("samples/m1.listing")).expect("a listing");
     assert_eq!(shown[0], (vec!["list", "samples/m1.domain"], listing.as_str()));
-    if !root.join("target/bin/list").exists() || !root.join("rust/target/release/goadlotus").exists() {
+    if !root.join("crates/list/out/list").exists() || !root.join("rust/target/release/goadlotus").exists() {
         eprintln!("the command isn't built, so it isn't tried");
         return;
     }

@@ -49,9 +49,12 @@ impl Release {
     /// None where the programs aren't built.
     fn packed(name: &str) -> Option<Release> {
         let root = root();
-        for path in
-            ["target/bin/list", "target/bin/play", "target/staticlib/libgoadlotus.a", "rust/target/release/goadlotus"]
-        {
+        for path in [
+            "crates/list/out/list",
+            "crates/play/out/play",
+            "crates/goadlotus/out/libgoadlotus.a",
+            "rust/target/release/goadlotus",
+        ] {
             if !root.join(path).exists() {
                 eprintln!("{path} isn't built, so no release is tried");
                 return None;

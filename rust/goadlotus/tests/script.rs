@@ -27,29 +27,29 @@ fn answer(out: Output) -> Answer {
     (out.status.code().expect("an exit status"), text(out.stdout), text(out.stderr))
 }
 
-/// As rt does: a log for each crate from its start, the verdict at its end; a program with a stamp is left alone. The program `list` answers
-/// the number that its file holds.
+/// As rt does in a crate's folder: it makes the library, or builds and runs the program; one that is there with a stamp is left alone. The
+/// program `list` answers the number that its file holds.
 const RT: &str = r#"#!/bin/sh
-[ -f crates.txt ] || exit 2
-echo "rt $*" >>calls
-mkdir -p target/log target/stamp target/bin target/staticlib
-case $1 in
-check)
-    shift
-    for crate; do
-        : >"target/log/$crate.out"
-        [ "$crate" != records ] || sleep 0.7
-        echo "fn $crate::f: proved"
-        echo "rt: $crate proved (1 s)" | tee "target/log/$crate.out"
-    done
-    for program in list play; do
-        [ -e "target/stamp/$program" ] && continue
-        : >"target/stamp/$program"
-        printf '#!/bin/sh\nread -r number || number=10\necho "verdict $number 0 0 0"\n' >"target/bin/$program"
-        chmod +x "target/bin/$program"
-    done
+[ -f ../../crates.txt ] || exit 2
+name=${PWD##*/}
+echo "$name: rt $*" >>../../calls
+[ "$name" != records ] || sleep 0.7
+mkdir -p out
+echo "fn $name::f: proved"
+case "$*" in
+lib)
+    [ "$name" = list ] || [ "$name" = play ] && exit 2
+    [ "$name" != goadlotus ] || echo library >out/libgoadlotus.a
     ;;
-staticlib) [ "$2" = goadlotus ] && echo library >target/staticlib/libgoadlotus.a ;;
+run*)
+    [ "$name" = list ] || [ "$name" = play ] || exit 2
+    if [ ! -e out/stamp ] || [ ! -e "out/$name" ]; then
+        : >out/stamp
+        printf '#!/bin/sh\nread -r number || number=10\necho "verdict $number 0 0 0"\n' >"out/$name"
+        chmod +x "out/$name"
+    fi
+    "out/$name"
+    ;;
 *) exit 2 ;;
 esac
 "#;
@@ -75,11 +75,12 @@ impl Place {
         write(place.script(), &script);
         write(
             place.at("crates.txt"),
-            "# crates\nrecords:\ngoadlotus: records\nlist: records io\nplay: records\nother:\n",
+            "# crates\nrecords:\ngoadlotus staticlib: records\nlist: records io\nplay: records\nother:\n",
         );
         for crate_name in ["records", "goadlotus", "list", "play", "other"] {
             write(place.at(&format!("crates/{crate_name}/src/lib.rt")), "");
         }
+        write(place.at("crates/list/stdin"), "1\n");
         write(place.at("rust/Cargo.toml"), "version = \"7.8.9\"\n");
         write(place.at("rust/command/src/main.rs"), "");
         for (file, number) in [("accepted", "1\n"), ("refused", "42\n"), ("broken", "13\n"), ("empty", "")] {
@@ -144,6 +145,13 @@ impl Place {
         sleep(Duration::from_millis(40));
     }
 
+    /// A note of the script's, in the temporary folder of the build that goes on.
+    fn note(&self, name: &str) -> PathBuf {
+        let folders = fs::read_dir(self.folder.join("temporary")).expect("a folder");
+        let notes = folders.map(|folder| folder.expect("a folder").path().join(name));
+        notes.into_iter().find(|note| note.exists()).expect("a note")
+    }
+
     fn nothing_temporary(&self) -> bool {
         fs::read_dir(self.folder.join("temporary")).expect("a folder").next().is_none()
     }
@@ -156,7 +164,8 @@ impl Drop for Place {
     }
 }
 
-const PROVING: [&str; 3] = ["rt check records list play", "rt staticlib goadlotus", "cargo build"];
+const PROVING: [&str; 5] =
+    ["records: rt lib", "goadlotus: rt lib", "list: rt run", "play: rt run -- data/m1 data/m12", "cargo build"];
 
 /// Does a text fit a terminal of 80 columns?
 fn fits(text: &str) -> bool {
@@ -241,7 +250,7 @@ fn what_is_older_is_built_again_once() {
     built(&[]);
     place.touch("rust/command/src/main.rs");
     built(&["cargo build"]);
-    for gone in ["target/bin/list", "target/bin/play", "target/staticlib/libgoadlotus.a"] {
+    for gone in ["crates/list/out/list", "crates/play/out/play", "crates/goadlotus/out/libgoadlotus.a"] {
         fs::remove_file(place.at(gone)).expect("it goes");
         built(&PROVING);
     }
@@ -297,10 +306,9 @@ fn kill(signal: &str, process: &str) {
 /// programs that look new.
 const SLOW_RT: &str = r#"#!/bin/sh
 mktemp -d >/dev/null
-mkdir -p target/log && : >target/log/records.out
-touch target/bin/list target/bin/play target/staticlib/libgoadlotus.a
+touch ../list/out/list ../play/out/play ../goadlotus/out/libgoadlotus.a
 sh -c 'sleep 1000; :' &
-echo $$ $! >>provers
+echo $$ $! >>../../provers
 sleep 1000
 "#;
 
@@ -320,7 +328,7 @@ fn signals_end_the_provers() {
         // whoever reads the progress may be gone first, and there is some
         if signal == "TERM" {
             drop(script.stderr.take());
-            write(place.at("target/log/list.out"), "");
+            write(place.note("doing"), "2 list\n");
             sleep(Duration::from_secs(1));
         }
         // a terminal sends an interrupt to everything in the foreground, kill to one process
@@ -341,7 +349,7 @@ fn signals_end_the_provers() {
 fn two_first_uses() {
     let place = Place::with_tools("two");
     let first = place.told(&["judge", "first", "0"]).spawn().expect("the script starts");
-    within(20, "the first builds", || place.at("target/log/records.out").exists());
+    within(20, "the first builds", || place.at("calls").exists());
     let second = answer(place.told(&["judge", "second", "0"]).output().expect("the script starts"));
     let first = answer(first.wait_with_output().expect("the script ends"));
     assert_eq!((first.0, first.1.as_str()), (0, "command judge first 0\n"));
@@ -400,7 +408,7 @@ fn list_tells_what_it_cannot_read_or_write() {
     drop(closed.stdout.take());
     assert_eq!(answer(closed.wait_with_output().expect("the script ends")), (1, String::new(), unwritten.into()));
     // a program that doesn't answer
-    write(place.at("target/bin/list"), "#!/bin/sh\nexit 1\n");
+    write(place.at("crates/list/out/list"), "#!/bin/sh\nexit 1\n");
     let (status, out, said) = place.tried(&["list", "accepted"]);
     assert!(status == 1 && out.is_empty() && said.contains("gives no verdict"), "{said}");
 }
@@ -419,8 +427,12 @@ fn status_of(listing: &str) -> i32 {
 #[test]
 fn samples_where_built() {
     let (root, samples) = (root(), root().join("samples"));
-    let needed =
-        ["target/bin/list", "target/bin/play", "target/staticlib/libgoadlotus.a", "rust/target/release/goadlotus"];
+    let needed = [
+        "crates/list/out/list",
+        "crates/play/out/play",
+        "crates/goadlotus/out/libgoadlotus.a",
+        "rust/target/release/goadlotus",
+    ];
     if let Some(lacking) = needed.iter().find(|path| !root.join(path).exists()) {
         eprintln!("{lacking} isn't built, so the samples aren't tried");
         return;
@@ -442,7 +454,7 @@ fn samples_where_built() {
         } else if let Some(name) = file.strip_suffix(".run") {
             let of = read(format!("{name}.of"));
             let expected = (0, read(format!("{name}.played")), String::new());
-            assert_eq!(tried(root.join("target/bin/play"), &[of.trim_end(), &file]), expected, "{file}");
+            assert_eq!(tried(root.join("crates/play/out/play"), &[of.trim_end(), &file]), expected, "{file}");
             files += 1;
         }
     }

@@ -55,5 +55,5 @@ fn trying_uses_none_of_the_class_code() {
     }
     assert!(3 < files, "only {files} files of trying");
     of_classes.sort();
-    assert_eq!(of_classes, ["use classes::number::class_tuple;", "use classes::number::number_classes;"]);
+    assert_eq!(of_classes, ["use classes::number::{class_tuple, number_classes};"]);
 }
