@@ -1,7 +1,7 @@
 // Reads a file by name, or says on standard error why a program does nothing with it; and the names, which the program's arguments are.
 ghost use Rattle.std.specs.Counts.{IsPrefixLen};
 ghost use Rattle.std.specs.Io.KnownBytes.{Appends};
-ghost use Rattle.std.specs.Prelude.{[], ◌++◌, IfOk, OnOk, ◌∷◌};
+ghost use Rattle.std.specs.Prelude.{[], ◌++◌, ◌≡◌, IfOk, OnOk, length, ◌∷◌};
 
 use literals::limits::MAX_FILE;
 use std::env::{Env, FillError};
@@ -98,7 +98,8 @@ fn is_readable<R: Read>(input: &mut R) -> bool {
     input.read(&mut next).is_ok()
 }
 
-// Reads a file from its start for the program of a name, or says that it cannot be opened or read.
+// Reads a file from its start for the program of a name, or says that it cannot be opened or read. An error is one of writing that line;
+// the memory is then as long as before, and holds what was read.
 pub fn read_named<R: Files, W: Write>(
     rt: &R,
     errors: &mut W,
@@ -106,7 +107,8 @@ pub fn read_named<R: Files, W: Write>(
     name: &[u8],
     file: &mut [u8],
 ) -> io::Result<FileRead>
-    ensures { IfOk result (λ read. IsPrefixLen read.count file.new) }
+    ensures counted { IfOk result (λ read. IsPrefixLen read.count file.new) }
+    ensures room { length file.new ≡ length file.old }
 {
     let Ok(mut input) = open_named(rt, name) else {
         print_open_error(errors, program, name)?;
