@@ -56,7 +56,7 @@ fn found_at(s: &[u8], at: usize) -> Record
     }
 }
 
-// A file and a position in it. The borrow checker covers no function over such a struct, so they are few and thin, and proved by hand.
+// A file and a position in it. Few functions are over it, and thin: what they answer is `found_at` of the two.
 #[derive(Drop)]
 pub struct Reader<'a> {
     pub file: &'a [u8],
