@@ -18,8 +18,7 @@ use Rattle.literals.specs.declared.Usage.{Usage}
 use Rattle.literals.specs.declared.Usage.TheVariants.{Positive, Negative}
 use Rattle.literals.specs.declared.Role.{Role}
 use Rattle.literals.specs.Domain.{is_every, Atom, Fact, same_fact, role_number, Literal, Domain, action}
-use Rattle.literals.specs.Decode.{byte}
-use Rattle.literals.specs.Held.{rows_in, arity_in, HeadOf, Held, usage_for}
+use Rattle.literals.specs.Held.{rows_in, HeadOf, Held, usage_for}
 use Rattle.literals.specs.declared.Moment.{Moment}
 use Rattle.literals.specs.declared.Moment.TheVariants.{Start, End}
 use Rattle.literals.specs.Matching.{with_role, literals_at, over_all}
@@ -32,31 +31,9 @@ use Rattle.verdict.proofs.Patterns.{plain_row, all_flat, literal_bound, literal_
 use Rattle.store.specs.Held.{has_row, Indexed}
 use Rattle.events.specs.Held.{ground_row, Open, open_of, GroundFits, GroundsFit, OverObjects, time_of, GroundLiteral, ground_literals}
 use Rattle.events.specs.Held.{event_literals, ground_in, Grounded}
-use Rattle.applicability.specs.Held.{condition_met, plainly_met}
+use Rattle.applicability.specs.Held.{condition_met}
 use Rattle.events.proofs.FactRows.{has_fact, counts_for, usage_counts, counts_plain, all_literals_lem, listed_in, head_kept, no_ground, open_count}
 use Rattle.events.proofs.Listed.{entry_fits, entry_row}
-
--- ---- one ground literal, by equal rows
-
-module _ (facts : List (List ℕ)) (l : GroundLiteral) where
-  pub met_true : l.usage ≡ 1 → (row : List ℕ) (r : Bool) → row ≡ l.row → r ≡ has_row row facts → r ≡ plainly_met facts l
-  unfolding plainly_met
-  met_true e row r f g = rw (eq-eqb l.usage 1 e) (g ∙ ap (λ (x : List ℕ). has_row x facts) f)
-
-  pub met_false : (l.usage ≡ 1 → ⊥) → l.usage ≡ 2 → (row : List ℕ) (r : Bool) → row ≡ l.row → r ≡ has_row row facts
-      → not r ≡ plainly_met facts l
-  unfolding plainly_met
-  met_false n e row r f g =
-      rw (ne_eqb l.usage 1 n, eq-eqb l.usage 2 e) (ap not (g ∙ ap (λ (x : List ℕ). has_row x facts) f))
-
-  pub met_none : (l.usage ≡ 1 → ⊥) → (l.usage ≡ 2 → ⊥) → true ≡ plainly_met facts l
-  unfolding plainly_met
-  met_none n o = rw (ne_eqb l.usage 1 n, ne_eqb l.usage 2 o)
-
--- the row of one that is read, with the arity of its relation
-pub read_sized : (head : List ℕ) (row at : List ℕ) → row ≡ at → byte at 1 ≡ arity_in head (byte at 0)
-    → byte row 1 ≡ arity_in head (byte row 0)
-read_sized head row at e h = ap (λ (t : List ℕ). byte t 1) e ∙ h ∙ sym (ap (λ (t : List ℕ). arity_in head (byte t 0)) e)
 
 -- ---- tests of the literals of a usage
 

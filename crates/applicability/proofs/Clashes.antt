@@ -1,4 +1,4 @@
--- Ground literals that clash: one against another by their words, and those of an event against those behind them. Assumes nothing.
+-- Ground literals that clash: the words by which they are told, and those of an event against those behind them. Assumes nothing.
 use mathlib.Core.Path.{◌≡◌, refl, sym, ap, ap₂, ◌∙◌}
 use mathlib.Core.Bool.{Bool, true, false, not, ◌&&◌, ◌||◌}
 use mathlib.Core.List.{List, [], ◌∷◌, ◌++◌, flat_map}
@@ -12,11 +12,10 @@ use borrow.Author.Tests.{eqb-true, eqb-false}
 use Rattle.records.specs.Lists.{all, any}
 use Rattle.records.proofs.Lists.{any_append, flat_map_append, flat_map_snoc}
 use Rattle.literals.proofs.Indices.{any_agree, any_or}
-use Rattle.verdict.specs.Held.{patterns_meet}
 use Rattle.store.specs.Held.{word_of}
 use Rattle.events.specs.Held.{GroundLiteral, counts_at, ground_at, ground_in, in_one, Laid}
 use Rattle.events.proofs.GroundLiterals.{length_ground, take_ground}
-use Rattle.applicability.specs.Held.{clashing, clashes, literals_clash, WordsOf, ToldByWords}
+use Rattle.applicability.specs.Held.{clashes, literals_clash, WordsOf}
 
 -- ---- words
 
@@ -34,26 +33,6 @@ words_more memory words i w row f h e g j l = go (eqb j i) refl
         ∙ ap word_of e
         ∙ ap (λ (k : ℕ). word_of (ground_at memory k).row) (sym q)
     go false t = let q = eqb-false j i t in get_or-set_other words i j w 0 q ∙ f j (omega arith)
-
--- ---- one against another
-
--- by their words, or where there are patterns by their rows
-module _ {patterns : Bool} {p q : List ℕ} (T : ToldByWords patterns p q) {v w : ℕ} (e : v ≡ word_of p) (f : w ≡ word_of q) where
-  pub words_meet : v ≡ w → true ≡ patterns_meet p q
-  words_meet g = sym (T.same (sym e ∙ g ∙ f))
-
-  pub words_apart : (v ≡ w → ⊥) → patterns ≡ false → false ≡ patterns_meet p q
-  words_apart n k = sym (T.other k (λ g. n (e ∙ g ∙ sym f)))
-
--- where their rows meet, by their usages
-module _ (a b : GroundLiteral) {m : Bool} (e : m ≡ patterns_meet a.row b.row) where
-  pub clash_meet : m ≡ true → {r : Bool} → r ≡ clashing a.usage b.usage → r ≡ clashes a b
-  unfolding clashes
-  clash_meet t f = f ∙ sym (ap (λ (x : Bool). x && clashing a.usage b.usage) (sym e ∙ t))
-
-  pub clash_apart : m ≡ false → false ≡ clashes a b
-  unfolding clashes
-  clash_apart t = sym (ap (λ (x : Bool). x && clashing a.usage b.usage) (sym e ∙ t))
 
 -- ---- a part against those behind it
 

@@ -6,7 +6,7 @@ use mathlib.Core.List.{List, map}
 use Prim.Native.Nat.{ℕ}
 use lib.Dec.{eqb}
 use native.Mathlib.Omega.{arith}
-use borrow.Author.Tests.{eqb-true, eq-eqb, ne_eqb}
+use borrow.Author.Tests.{eqb-true, ne_eqb}
 use Rattle.records.specs.Lists.{In, all, any, same_list}
 use Rattle.records.proofs.Lists.{bool_cases, off, clash, not_true, and_l, and_r, any_in, in_any, any_out, all_in, all_of, same_list_eq}
 use Rattle.literals.specs.declared.Object.{Object}
@@ -20,26 +20,6 @@ use Rattle.events.specs.Held.{OverObjects, is_pattern, GroundLiteral}
 use Rattle.events.proofs.Members.{map_in}
 use Rattle.events.proofs.Meeting.{meets_self, Formed, chosen_meets}
 use Rattle.applicability.specs.Held.{condition_met, plainly_met, asks_pattern, forbids, MeetSame}
-
--- ---- one ground literal
-
-module _ (l : GroundLiteral) where
-  pub asks_none : (l.usage ≡ 2 → ⊥) → false ≡ asks_pattern l
-  unfolding asks_pattern
-  asks_none n = sym (ap (λ (b : Bool). b && is_pattern l.row) (ne_eqb l.usage 2 n))
-
-  pub asks_row : l.usage ≡ 2 → {r : Bool} → r ≡ is_pattern l.row → r ≡ asks_pattern l
-  unfolding asks_pattern
-  asks_row e f = f ∙ sym (ap (λ (b : Bool). b && is_pattern l.row) (eq-eqb l.usage 2 e))
-
-  module _ (fact : List ℕ) where
-    pub forbids_none : (l.usage ≡ 2 → ⊥) → false ≡ forbids fact l
-    unfolding forbids
-    forbids_none n = sym (ap (λ (b : Bool). b && patterns_meet l.row fact) (ne_eqb l.usage 2 n))
-
-    pub forbids_row : l.usage ≡ 2 → {r : Bool} → r ≡ patterns_meet l.row fact → r ≡ forbids fact l
-    unfolding forbids
-    forbids_row e f = f ∙ sym (ap (λ (b : Bool). b && patterns_meet l.row fact) (eq-eqb l.usage 2 e))
 
 -- ---- the facts of a domain
 

@@ -3,11 +3,11 @@ use mathlib.Core.Path.{◌≡◌, refl, sym, ap, ap₂, ◌∙◌, subst}
 use mathlib.Core.Bool.{Bool, true, false, ◌&&◌, ◌||◌, not}
 use mathlib.Core.List.Memᴰ
 use mathlib.Core.List.{List, [], ◌∷◌, ◌++◌, map}
-use Prim.Native.Nat.{ℕ, suc, ◌≤◌, ◌<◌}
+use Prim.Native.Nat.{ℕ, suc, ◌<◌}
 use native.Mathlib.Omega.{arith}
-use lib.Dec.{eqb, ltb, leb}
+use lib.Dec.{eqb, ltb}
 use lib.ListN.{length, drop}
-use borrow.Author.Tests.{ne_eqb, lt-ltb, le-ltb, ltb-true}
+use borrow.Author.Tests.{ltb-true}
 use Rattle.records.specs.Lists.{In, filter_by, any, pairwise, elem}
 use Rattle.records.proofs.Lists.{eqb_comm, same_list_comm, all_map, any_append, any_map, all_below, below_in}
 use Rattle.literals.specs.declared.Object.{Object}
@@ -32,25 +32,6 @@ use Rattle.applicability.specs.Held.{clashing, clashes, literals_clash}
 use Rattle.events.proofs.FactRows.{agree, agree_same, counts_for, usage_counts, any_literals, listed_in, head_kept}
 use Rattle.applicability.proofs.Asked.{all_agree}
 use Rattle.applicability.proofs.Clashes.{any_never}
-
--- ---- clashing usages, test by test
-
-module _ (c d : ℕ) where
-  pub clash_none : c ≡ 0 → false ≡ clashing c d
-  unfolding clashing
-  clash_none e = rw e
-
-  pub clash_condition : (c ≡ 0 → ⊥) → c < 3 → leb 3 d ≡ clashing c d
-  unfolding clashing
-  clash_condition n h = rw (lt-ltb c 3 h, ne_eqb c 0 n)
-
-  pub clash_effect : 3 ≤ c → d < 3 → not (eqb d 0) ≡ clashing c d
-  unfolding clashing
-  clash_effect h g = rw (le-ltb c 3 h, lt-ltb d 3 g)
-
-  pub clash_effects : 3 ≤ c → 3 ≤ d → not (eqb c d) ≡ clashing c d
-  unfolding clashing
-  clash_effects h g = rw (le-ltb c 3 h, le-ltb d 3 g)
 
 -- ---- pairs of elements of two lists
 

@@ -13,143 +13,117 @@ ghost use Rattle.events.specs.Held.{ground_bytes, open_bytes, ground_row, open_o
 ghost use Rattle.events.specs.Held.{grounded_bytes, ground_at, ground_in, EachSized, Grounded};
 ghost use Rattle.applicability.specs.Held.{condition_met, plainly_met, asks_pattern, forbids, MeetSame};
 
-use events::GROUND;
-use events::facts::{is_pattern, patterns_meet};
-use events::grounding::{USAGES, ground_action};
+use events::facts::{ground_at, is_pattern, patterns_meet};
+use events::grounding::{FALSE_CONDITION, TRUE_CONDITION, USAGES, ground_action};
 use literals::Time;
 use literals::head::Head;
 use literals::limits::MAX_RUNNING;
 use store::index::{FactIndex, is_held};
 use store::rows::row_at;
 
-// Whether the first n rows of the work memory meet the ground literal i, by equal rows: a true condition asks for its fact, a false one for
-// its absence, an effect for nothing.
-fn plainly_met(memory: &[u8], i: usize, index: &FactIndex, work: &[u8], n: usize) -> bool
-    requires memory { length memory.now ≡ grounded_bytes }
-    requires literal { i < max_ground }
-    requires few { n ≤ max_facts }
-    requires facts { 8 * n ≤ length work.now }
-    ensures { (head : List ℕ) → Indexed head index.now (rows_in n work.now)
-        → byte (ground_at memory.now i).row 1 ≡ arity_in head (byte (ground_at memory.now i).row 0)
-        → result ≡ plainly_met (rows_in n work.now) (ground_at memory.now i) }
-{
-    let usage = memory[USAGES + i];
-    if usage == 1 {
-        return is_held(index, work, n, row_at(memory, 8 * i));
-    }
-    if usage == 2 {
-        return !is_held(index, work, n, row_at(memory, 8 * i));
-    }
-    true
+// The first `count` ground literals of a memory.
+#[derive(Clone, Copy)]
+struct GroundLiterals<'a> {
+    memory: &'a [u8],
+    count: usize,
+    ghost sized: { length memory.now ≡ grounded_bytes },
+    ghost few: { count ≤ max_ground },
 }
 
-// Whether they so meet the first `total` ground literals.
-fn all_plainly_met(memory: &[u8], total: usize, index: &FactIndex, work: &[u8], n: usize) -> bool
-    requires memory { length memory.now ≡ grounded_bytes }
-    requires total { total ≤ max_ground }
-    requires few { n ≤ max_facts }
-    requires facts { 8 * n ≤ length work.now }
-    ensures { (head : List ℕ) → Indexed head index.now (rows_in n work.now)
-        → EachSized head (ground_in total memory.now)
-        → result ≡ all (plainly_met (rows_in n work.now)) (ground_in total memory.now) }
-{
-    for i in 0..total {
-        if !plainly_met(memory, i, index, work, n) {
-            return false;
-        }
-    }
-    true
+// The facts, the first `count` rows of the work memory, with their index.
+#[derive(Clone, Copy)]
+struct Facts<'a> {
+    index: &'a FactIndex,
+    work: &'a [u8],
+    count: usize,
+    ghost few: { count ≤ max_facts },
+    ghost room: { 8 * count ≤ length work.now },
 }
 
 // Whether the ground literal i is a false condition and a pattern.
+#[tactic(auto, unfolding(crate::specs::Held::asks_pattern))]
 fn asks_pattern(memory: &[u8], i: usize) -> bool
     requires memory { length memory.now ≡ grounded_bytes }
     requires literal { i < max_ground }
     ensures { result ≡ asks_pattern (ground_at memory.now i) }
 {
-    if memory[USAGES + i] != 2 {
-        return false;
-    }
-    is_pattern(memory, 8 * i)
-}
-
-// Whether one of the first `total` ground literals is.
-fn any_asks_pattern(memory: &[u8], total: usize) -> bool
-    requires memory { length memory.now ≡ grounded_bytes }
-    requires total { total ≤ max_ground }
-    ensures { result ≡ any asks_pattern (ground_in total memory.now) }
-{
-    for i in 0..total {
-        if asks_pattern(memory, i) {
-            return true;
-        }
-    }
-    false
+    memory[USAGES + i] == FALSE_CONDITION && is_pattern(memory, 8 * i)
 }
 
 // Whether the ground literal i is a false condition that the row at an offset of the work memory meets.
+#[tactic(auto, unfolding(crate::specs::Held::forbids))]
 fn forbids(memory: &[u8], i: usize, work: &[u8], at: usize) -> bool
     requires memory { length memory.now ≡ grounded_bytes }
     requires literal { i < max_ground }
     requires fact { at + 8 ≤ length work.now }
     ensures { result ≡ forbids (take 8 (drop at work.now)) (ground_at memory.now i) }
 {
-    if memory[USAGES + i] != 2 {
-        return false;
-    }
-    patterns_meet(memory, 8 * i, work, at)
+    memory[USAGES + i] == FALSE_CONDITION && patterns_meet(memory, 8 * i, work, at)
 }
 
-// Whether one of the first `total` ground literals is.
-fn is_forbidden(memory: &[u8], total: usize, work: &[u8], at: usize) -> bool
-    requires memory { length memory.now ≡ grounded_bytes }
-    requires total { total ≤ max_ground }
-    requires fact { at + 8 ≤ length work.now }
-    ensures { result ≡ any (forbids (take 8 (drop at work.now))) (ground_in total memory.now) }
-{
-    for i in 0..total {
-        if forbids(memory, i, work, at) {
-            return true;
+impl GroundLiterals<'_> {
+    // Whether one is a false condition and a pattern.
+    fn any_asks_pattern(&self) -> bool
+        ensures { result ≡ any asks_pattern (ground_in self.now.count self.now.memory.now) }
+    {
+        (0..self.count).any(|i| asks_pattern(self.memory, i))
+    }
+
+    // Whether one is a false condition that the row at an offset of the work memory meets.
+    fn any_forbids(&self, work: &[u8], at: usize) -> bool
+        requires fact { at + 8 ≤ length work.now }
+        ensures { result ≡ any (forbids (take 8 (drop at work.now))) (ground_in self.now.count self.now.memory.now) }
+    {
+        (0..self.count).any(|i| forbids(self.memory, i, work, at))
+    }
+}
+
+impl Facts<'_> {
+    // Whether they meet the ground literal i, by equal rows: a true condition asks for its fact, a false one for its absence, an effect for
+    // nothing.
+    #[tactic(auto, unfolding(crate::specs::Held::plainly_met))]
+    fn plainly_met(&self, memory: &[u8], i: usize) -> bool
+        requires memory { length memory.now ≡ grounded_bytes }
+        requires literal { i < max_ground }
+        ensures { (head : List ℕ) → Indexed head self.now.index.now (rows_in self.now.count self.now.work.now)
+            → byte (ground_at memory.now i).row 1 ≡ arity_in head (byte (ground_at memory.now i).row 0)
+            → result ≡ plainly_met (rows_in self.now.count self.now.work.now) (ground_at memory.now i) }
+    {
+        match memory[USAGES + i] {
+            TRUE_CONDITION => is_held(self.index, self.work, self.count, row_at(memory, 8 * i)),
+            FALSE_CONDITION => !is_held(self.index, self.work, self.count, row_at(memory, 8 * i)),
+            _ => true,
         }
     }
-    false
-}
 
-// Whether one of the first n rows of the work memory meets a false condition: the facts are walked once, for all patterns together.
-fn any_forbidden(memory: &[u8], total: usize, work: &[u8], n: usize) -> bool
-    requires memory { length memory.now ≡ grounded_bytes }
-    requires total { total ≤ max_ground }
-    requires facts { 8 * n ≤ length work.now }
-    ensures { result ≡ any (λ fact. any (forbids fact) (ground_in total memory.now)) (rows_in n work.now) }
-{
-    let mut i = 0;
-    while i < n {
-        if is_forbidden(memory, total, work, 8 * i) {
-            return true;
-        }
-        i += 1;
+    // Whether they so meet all.
+    fn all_plainly_met(&self, literals: &GroundLiterals) -> bool
+        ensures { (head : List ℕ) → Indexed head self.now.index.now (rows_in self.now.count self.now.work.now)
+            → EachSized head (ground_in literals.now.count literals.now.memory.now)
+            → result ≡ all (plainly_met (rows_in self.now.count self.now.work.now)) (ground_in literals.now.count literals.now.memory.now) }
+    {
+        (0..literals.count).all(|i| self.plainly_met(literals.memory, i))
     }
-    false
-}
 
-// Whether they meet the first `total` ground literals: those without FF by the index, and only where there are patterns by a walk.
-fn conditions_met(memory: &[u8], total: usize, index: &FactIndex, work: &[u8], n: usize) -> bool
-    requires memory { length memory.now ≡ grounded_bytes }
-    requires total { total ≤ max_ground }
-    requires few { n ≤ max_facts }
-    requires facts { 8 * n ≤ length work.now }
-    ensures { (head : List ℕ) → Indexed head index.now (rows_in n work.now)
-        → EachSized head (ground_in total memory.now)
-        → MeetSame (ground_in total memory.now) (rows_in n work.now)
-        → result ≡ all (condition_met (rows_in n work.now)) (ground_in total memory.now) }
-{
-    if !all_plainly_met(memory, total, index, work, n) {
-        return false;
+    // Whether one of them meets a false condition: the facts are walked once, for all patterns together.
+    fn any_forbidden(&self, literals: &GroundLiterals) -> bool
+        ensures { result ≡ any (λ fact. any (forbids fact) (ground_in literals.now.count literals.now.memory.now))
+            (rows_in self.now.count self.now.work.now) }
+    {
+        (0..self.count).any(|i| literals.any_forbids(self.work, 8 * i))
     }
-    if !any_asks_pattern(memory, total) {
-        return true;
+
+    // Whether they meet all: those without FF by the index, and only where there are patterns by a walk.
+    fn conditions_met(&self, literals: &GroundLiterals) -> bool
+        ensures { (head : List ℕ) → Indexed head self.now.index.now (rows_in self.now.count self.now.work.now)
+            → EachSized head (ground_in literals.now.count literals.now.memory.now)
+            → MeetSame (ground_in literals.now.count literals.now.memory.now) (rows_in self.now.count self.now.work.now)
+            → result ≡ all (condition_met (rows_in self.now.count self.now.work.now))
+            (ground_in literals.now.count literals.now.memory.now) }
+    {
+        self.all_plainly_met(literals)
+            && (!literals.any_asks_pattern() || !self.any_forbidden(literals))
     }
-    !any_forbidden(memory, total, work, n)
 }
 
 // Whether they meet the conditions of every event of a step at its own moment, whose ground literals are in the memory. (Over-all
@@ -164,36 +138,38 @@ pub fn events_met(memory: &[u8], total: usize, index: &FactIndex, work: &[u8], n
         → Indexed head index.now (map fact_row fs) → (objs : List Object)
         → OverObjects D objs fs (map (λ (e : Event). e.act) es) → result ≡ all (own_hold D objs fs) es }
 {
-    conditions_met(memory, total, index, work, n)
+    let facts = Facts {
+        index,
+        work,
+        count: n,
+    };
+    facts.conditions_met(&GroundLiterals {
+        memory,
+        count: total,
+    })
 }
 
-// Whether they meet the over-all conditions of the open entry i, whose ground literals are written to the front of the memory.
+// Whether the facts meet the over-all conditions of the open entry i, whose ground literals are written to the front of the memory.
 fn entry_met(
     head: &Head,
     table: &[u8],
     rows: &[u8],
     i: usize,
     memory: &mut [u8],
-    index: &FactIndex,
-    work: &[u8],
-    n: usize,
+    facts: &Facts,
 ) -> bool
     requires entries { length rows.now ≡ open_bytes }
     requires entry { i < max_running }
     requires memory { length memory.old ≡ grounded_bytes }
-    requires few { n ≤ max_facts }
-    requires facts { 8 * n ≤ length work.now }
     ensures { (D : Domain) (g : GroundAction) (fs : List Fact)
         → Held D head.now table.now → GroundFits D g
         → take ground_bytes (drop (ground_bytes * i) rows.now) ≡ ground_row g
-        → rows_in n work.now ≡ map fact_row fs
-        → Indexed head.now index.now (map fact_row fs) → (objs : List Object)
+        → rows_in facts.now.count facts.now.work.now ≡ map fact_row fs
+        → Indexed head.now facts.now.index.now (map fact_row fs) → (objs : List Object)
         → OverObjects D objs fs (g ∷ []) → result ≡ over_all_hold D objs fs g }
 {
-    let at = GROUND * i;
-    let end = at + GROUND;
-    let total = ground_action(head, table, Time::OverAll, &rows[at..end], memory, 0);
-    conditions_met(memory, total, index, work, n)
+    let count = ground_action(head, table, Time::OverAll, ground_at(rows, i), memory, 0);
+    facts.conditions_met(&GroundLiterals { memory, count })
 }
 
 // Whether they meet the over-all conditions of every open entry. The ground literals that were in the memory are overwritten.
@@ -221,8 +197,14 @@ pub fn open_met(
     if MAX_RUNNING < count {
         return false;
     }
+    let facts = Facts {
+        index,
+        work,
+        count: n,
+    };
+    // No chain: a closure would change the memory that it captures, and a proof knows nothing of that afterwards.
     for i in 0..count {
-        if !entry_met(head, table, rows, i, memory, index, work, n) {
+        if !entry_met(head, table, rows, i, memory, &facts) {
             return false;
         }
     }

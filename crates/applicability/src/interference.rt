@@ -11,9 +11,8 @@ ghost use Rattle.events.specs.Held.{OverObjects, GroundLiteral, max_ground, grou
 ghost use Rattle.applicability.specs.Held.{clashing, clashes, literals_clash, WordsOf, ToldByWords, AllTold};
 
 use events::facts::{has_pattern, patterns_meet};
-use events::grounding::{COUNTS, MAX_GROUND, USAGES};
+use events::grounding::{ADD, COUNTS, FALSE_CONDITION, MAX_GROUND, TRUE_CONDITION, USAGES};
 use literals::limits::MAX_EVENTS;
-use records::bytes::wide;
 use store::index::word_of;
 use store::rows::row_at;
 
@@ -21,19 +20,16 @@ use store::rows::row_at;
 type Words = [u64; MAX_GROUND];
 
 // Whether two usages of one fact may not stand in two events: a condition with an add or delete, an add with a delete.
+#[tactic(auto, unfolding(crate::specs::Held::clashing))]
 fn clashing(c: u8, d: u8) -> bool
     ensures { result ≡ clashing c d }
 {
-    if c == 0 {
-        return false;
+    match (c, d) {
+        (TRUE_CONDITION | FALSE_CONDITION, ADD..) => true,
+        (ADD.., TRUE_CONDITION | FALSE_CONDITION) => true,
+        (ADD.., ADD..) => c != d,
+        _ => false,
     }
-    if c < 3 {
-        return 3 <= d;
-    }
-    if d < 3 {
-        return d != 0;
-    }
-    c != d
 }
 
 // The words of the first n ground literals' facts.
@@ -48,114 +44,86 @@ fn put_words(words: &mut [u64], memory: &[u8], n: usize)
     }
 }
 
-// Whether the rows of the ground literals i and j meet. Most are told by their words; bytes are looked at where there are patterns.
-fn literals_meet(memory: &[u8], words: &Words, patterns: bool, i: usize, j: usize) -> bool
-    requires memory { length memory.now ≡ grounded_bytes }
-    requires first { i < max_ground }
-    requires second { j < max_ground }
-    requires first_word { get_or words.now i 0 ≡ word_of (ground_at memory.now i).row }
-    requires second_word { get_or words.now j 0 ≡ word_of (ground_at memory.now j).row }
-    ensures { ToldByWords patterns (ground_at memory.now i).row (ground_at memory.now j).row
-        → result ≡ patterns_meet (ground_at memory.now i).row (ground_at memory.now j).row }
-{
-    if words[i] == words[j] {
-        return true;
-    }
-    if !patterns {
-        return false;
-    }
-    patterns_meet(memory, 8 * i, memory, 8 * j)
-}
-
-// Whether the ground literals i and j clash.
-fn clashes_at(memory: &[u8], words: &Words, patterns: bool, i: usize, j: usize) -> bool
-    requires memory { length memory.now ≡ grounded_bytes }
-    requires first { i < max_ground }
-    requires second { j < max_ground }
-    requires first_word { get_or words.now i 0 ≡ word_of (ground_at memory.now i).row }
-    requires second_word { get_or words.now j 0 ≡ word_of (ground_at memory.now j).row }
-    ensures { ToldByWords patterns (ground_at memory.now i).row (ground_at memory.now j).row
-        → result ≡ clashes (ground_at memory.now i) (ground_at memory.now j) }
-{
-    if !literals_meet(memory, words, patterns, i, j) {
-        return false;
-    }
-    clashing(memory[USAGES + i], memory[USAGES + j])
-}
-
-// Whether the ground literal i clashes with one of those from `from` up to `to`.
-fn clashes_from(
-    memory: &[u8],
-    words: &Words,
+// Ground literals, the words of their facts, and whether there are patterns among them.
+#[derive(Clone, Copy)]
+struct Compared<'a> {
+    memory: &'a [u8],
+    words: &'a Words,
     patterns: bool,
-    i: usize,
-    from: usize,
-    to: usize,
-) -> bool
-    requires memory { length memory.now ≡ grounded_bytes }
-    requires few { to ≤ max_ground }
-    requires literal { i < to }
-    requires worded { WordsOf to memory.now words.now }
-    ensures { AllTold patterns to memory.now
-        → result ≡ any (clashes (ground_at memory.now i)) (drop from (ground_in to memory.now)) }
-{
-    let mut j = from;
-    while j < to {
-        if clashes_at(memory, words, patterns, i, j) {
-            return true;
-        }
-        j += 1;
-    }
-    false
+    ghost sized: { length memory.now ≡ grounded_bytes },
 }
 
-// Whether one of the ground literals from `from` up to `to` clashes with one of those behind, up to `total`.
-fn literals_clash(
-    memory: &[u8],
-    words: &Words,
-    patterns: bool,
-    from: usize,
-    to: usize,
-    total: usize,
-) -> bool
-    requires memory { length memory.now ≡ grounded_bytes }
-    requires few { total ≤ max_ground }
-    requires order { to ≤ total }
-    requires worded { WordsOf total memory.now words.now }
-    ensures { AllTold patterns total memory.now
-        → result ≡ literals_clash (drop from (ground_in to memory.now)) (drop to (ground_in total memory.now)) }
-{
-    let mut i = from;
-    while i < to {
-        if clashes_from(memory, words, patterns, i, to, total) {
-            return true;
-        }
-        i += 1;
+impl Compared<'_> {
+    // Whether the rows of the ground literals i and j meet. Most are told by their words; bytes are looked at where there are patterns.
+    fn literals_meet(&self, i: usize, j: usize) -> bool
+        requires first { i < max_ground }
+        requires second { j < max_ground }
+        requires first_word { get_or self.now.words.now i 0 ≡ word_of (ground_at self.now.memory.now i).row }
+        requires second_word { get_or self.now.words.now j 0 ≡ word_of (ground_at self.now.memory.now j).row }
+        ensures { ToldByWords self.now.patterns (ground_at self.now.memory.now i).row (ground_at self.now.memory.now j).row
+            → result ≡ patterns_meet (ground_at self.now.memory.now i).row (ground_at self.now.memory.now j).row }
+    {
+        self.words[i] == self.words[j]
+            || self.patterns && patterns_meet(self.memory, 8 * i, self.memory, 8 * j)
     }
-    false
-}
 
-// Whether no ground literal clashes with one of a later event. (The memory also has how many ground literals each event has.)
-fn all_apart(memory: &[u8], words: &Words, patterns: bool, count: usize, total: usize) -> bool
-    requires memory { length memory.now ≡ grounded_bytes }
-    requires count { count ≤ max_events }
-    requires few { total ≤ max_ground }
-    requires worded { WordsOf total memory.now words.now }
-    ensures { (parts : List (List GroundLiteral)) → length parts ≡ count → Laid parts memory.now total
-        → AllTold patterns total memory.now → result ≡ pairwise (λ first later. not (literals_clash first later)) parts }
-{
-    let mut from = 0;
-    for i in 0..count {
-        let to = from + wide(memory[COUNTS + i]);
-        if total < to {
-            return false;
-        }
-        if literals_clash(memory, words, patterns, from, to, total) {
-            return false;
-        }
-        from = to;
+    // Whether the ground literals i and j clash.
+    #[tactic(auto, unfolding(crate::specs::Held::clashes))]
+    fn clashes_at(&self, i: usize, j: usize) -> bool
+        requires first { i < max_ground }
+        requires second { j < max_ground }
+        requires first_word { get_or self.now.words.now i 0 ≡ word_of (ground_at self.now.memory.now i).row }
+        requires second_word { get_or self.now.words.now j 0 ≡ word_of (ground_at self.now.memory.now j).row }
+        ensures { ToldByWords self.now.patterns (ground_at self.now.memory.now i).row (ground_at self.now.memory.now j).row
+            → result ≡ clashes (ground_at self.now.memory.now i) (ground_at self.now.memory.now j) }
+    {
+        self.literals_meet(i, j) && clashing(self.memory[USAGES + i], self.memory[USAGES + j])
     }
-    true
+
+    // Whether the ground literal i clashes with one of those from `from` up to `to`.
+    fn clashes_from(&self, i: usize, from: usize, to: usize) -> bool
+        requires few { to ≤ max_ground }
+        requires literal { i < to }
+        requires worded { WordsOf to self.now.memory.now self.now.words.now }
+        ensures { AllTold self.now.patterns to self.now.memory.now
+            → result ≡ any (clashes (ground_at self.now.memory.now i)) (drop from (ground_in to self.now.memory.now)) }
+    {
+        (from..to).any(|j| self.clashes_at(i, j))
+    }
+
+    // Whether one of the ground literals from `from` up to `to` clashes with one of those behind, up to `total`.
+    fn literals_clash(&self, from: usize, to: usize, total: usize) -> bool
+        requires few { total ≤ max_ground }
+        requires order { to ≤ total }
+        requires worded { WordsOf total self.now.memory.now self.now.words.now }
+        ensures { AllTold self.now.patterns total self.now.memory.now
+            → result ≡ literals_clash (drop from (ground_in to self.now.memory.now)) (drop to (ground_in total self.now.memory.now)) }
+    {
+        (from..to).any(|i| self.clashes_from(i, to, total))
+    }
+
+    // Whether no ground literal clashes with one of a later event. (The memory also has how many ground literals each event has.)
+    fn all_apart(&self, count: usize, total: usize) -> bool
+        requires count { count ≤ max_events }
+        requires few { total ≤ max_ground }
+        requires worded { WordsOf total self.now.memory.now self.now.words.now }
+        ensures { (parts : List (List GroundLiteral)) → length parts ≡ count → Laid parts self.now.memory.now total
+            → AllTold self.now.patterns total self.now.memory.now
+            → result ≡ pairwise (λ first later. not (literals_clash first later)) parts }
+    {
+        let mut from = 0;
+        for i in 0..count {
+            let to = from + usize::from(self.memory[COUNTS + i]);
+            if total < to {
+                return false;
+            }
+            if self.literals_clash(from, to, total) {
+                return false;
+            }
+            from = to;
+        }
+        true
+    }
 }
 
 // Whether no two of the events of a step interfere, whose ground literals stand in the memory; they are compared by their words, and by
@@ -176,6 +144,10 @@ pub fn independent(memory: &[u8], count: usize, total: usize) -> bool
     }
     let mut words = [0u64; MAX_GROUND];
     put_words(&mut words, memory, total);
-    let patterns = has_pattern(memory, total);
-    all_apart(memory, &words, patterns, count, total)
+    let compared = Compared {
+        memory,
+        words: &words,
+        patterns: has_pattern(memory, total),
+    };
+    compared.all_apart(count, total)
 }

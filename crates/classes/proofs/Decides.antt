@@ -5,9 +5,11 @@ use mathlib.Core.Logic.{◌⊎◌, inl, inr}
 use mathlib.Core.List.{List, [], ◌∷◌, ◌++◌, map, flat_map}
 use Prim.Native.Nat.{ℕ, suc, ◌+◌, ◌-◌, ◌*◌, ◌≤◌, ◌<◌}
 use native.Mathlib.Omega.{arith}
-use lib.Dec.{eqb, leb}
+use lib.Dec.{eqb, leb, ltb}
 use lib.ListN.{length, get_or, replicate, length-map, get_or-append}
-use borrow.Author.Tests.{eq-eqb, ne_eqb, eqb-true, eqb-false, le-leb, lt-leb, leb-true, leb-false, ltb-true}
+use borrow.Author.Tests.{eq-eqb, ne_eqb, eqb-true, eqb-false, le-leb, lt-leb, leb-true, leb-false, ltb-true, ltb-false}
+use Rattle.std.specs.Prelude.{Some, None, position as optional}
+use Rattle.records.proofs.Chains.{position_is}
 use Rattle.records.specs.Lists.{In, filter_by, count_by, any, all, elem, position, below}
 use Rattle.records.proofs.Lists.{and_l, and_r, or_out, off, clash, any_out, in_flat_map, below_in, bool_cases, not_true, get_d_in, all_in, any_map, all_map, any_append, count_filter}
 use Rattle.literals.specs.declared.Variable.{Variable}
@@ -24,7 +26,8 @@ use Rattle.literals.specs.Domain.{label_number, Component, is_counted, key_below
 use Rattle.literals.specs.Decode.{argument_of, label_of}
 use Rattle.literals.proofs.Arguments.{every_number}
 use Rattle.literals.specs.Held.{literal_row, all_literals, has_every, some_every, pad, Bounded as BoundedDomain, arity_in, component_row_in}
-use Rattle.literals.specs.Held.{clears_in, TemplateOf}
+use Rattle.literals.specs.Held.{clears_in, components_in, TemplateOf}
+use Rattle.literals.proofs.KeyRows.{place_le}
 use Rattle.literals.proofs.Bytes.{keys_below_lem}
 use Rattle.literals.proofs.Tables.{Kept, kept, pad_at}
 use Rattle.literals.proofs.Heads.{part_is}
@@ -32,20 +35,22 @@ use Rattle.literals.proofs.Held.{keys_few}
 use Rattle.literals.specs.declared.Moment.{Moment}
 use Rattle.literals.specs.declared.Moment.TheVariants.{Start, End}
 use Rattle.classes.specs.declared.Name.TheVariants.{Unreachable, Irrelevant, Heavy, Balanced, Unbalanced, Bounded, Unbounded}
+use Rattle.classes.specs.declared.Count.{Count}
+use Rattle.classes.specs.declared.Count.TheVariants.{Zero, One, More}
 use Rattle.classes.specs.declared.Sole.{Sole}
 use Rattle.literals.specs.Matching.{required}
 use Rattle.classes.specs.Classes.{literal_tuples, belongs, classes, in_class, reach_in, lasts_in, deleted_by, changed_by, covered}
 use Rattle.classes.specs.Classes.{excluding, name_by, name_of, journey}
 use Rattle.classes.specs.Held.{ActionOf, MomentOf, class_number_by, class_numbers, own_usages, asked_usages, uncovered_at, is_at, is_same_at}
 use Rattle.classes.specs.Held.{same_in, is_delete_at, deleted_in, changed_at, excludes_at, cleared_at, clears_at, covers_at, covered_at}
-use Rattle.classes.specs.Held.{counted_at, has_counted, lacking_at, lasts_at, sole_by, sole_at, sole_of, reach_at}
+use Rattle.classes.specs.Held.{counted_at, has_counted, looked_covered, place_below, lacking_at, lasts_at, count_of, sole_by, sole_at, sole_of, reach_at}
 use Rattle.literals.proofs.Indices.{at_all, any_below, all_below_lem, side_all, filter_below, position_below, any_filter, all_filter}
-use Rattle.literals.proofs.Indices.{filter_filter, filter_map, any_or, position_map, position_none, get_d_map}
+use Rattle.literals.proofs.Indices.{filter_filter, filter_map, any_or, position_map, position_none, get_d_map, length_from}
 use Rattle.classes.proofs.Rows.{no_literal, literal_at, kept_at, role_at, relation_at, atoms_at, meet_at_lem, argument_at_lem}
 use Rattle.classes.proofs.Usages.{usages_few, literals_at_lem, required_at, asked_start}
 use Rattle.classes.proofs.Roles.{own_few}
 use Rattle.classes.proofs.Members.{member}
-use Rattle.classes.proofs.Soles.{and_comm, sole_none, sole_many, sole_one, sole_less, sole_passes, sole_all}
+use Rattle.classes.proofs.Soles.{and_comm, sole_none, sole_many, sole_one, sole_less, sole_passes, sole_all, count_zero, count_more, count_one}
 
 -- ---- the members of a class at a moment
 
@@ -434,67 +439,116 @@ module _ {D : Domain} {a : Action} {m : Moment} {head rows numbers usages : List
       (λ u. covered_at head (M.whole.literals u) (M.numbers_are u) (M.usages_are u) k c)
       ∙ open_in D a its_bounds M.whole.listed m k h M.whole.says c g f t
 
+  -- what is looked for is so
+  looked_held : {k : ℕ} → k < length (classes D a) → (c : ℕ) → c < length D.template → looked_covered head rows numbers usages k c ≡ covered_at head rows numbers usages k c
+  unfolding looked_covered
+  looked_held {k} h c g = go (clears_in head) refl (has_counted head c) refl
+    where
+      go : (s : Bool) → clears_in head ≡ s → (t : Bool) → has_counted head c ≡ t → (s || not t) && covered_at head rows numbers usages k c ≡ covered_at head rows numbers usages k c
+      go true e t f = refl
+      go false e true f = sym (open_held h c g e f)
+      go false e false f = refl
+
+  pub uncovered_found : {k : ℕ} → k < length (classes D a)
+      → optional (λ c. not (looked_covered head rows numbers usages k c)) (below (components_in head))
+      ≡ place_below (length D.template) (uncovered_at D a (get_or (classes D a) k []) m)
+  unfolding lacking_at
+  uncovered_found {k} h =
+      ap₂ place_below (length_from 0 (components_in head) ∙ its)
+      (sym (position_is looked (below (components_in head)))
+      ∙ position_below looked (λ c. not (covered_at head rows numbers usages k c)) (components_in head)
+      (λ c g. ap not (looked_held h c (omega arith)))
+      ∙ uncovered_held h)
+    where
+      looked : ℕ → Bool
+      looked c = not (looked_covered head rows numbers usages k c)
+
+      its : components_in head ≡ length D.template
+      its = M.whole.says.components
+
 -- ---- the first line that fits
 
 module _ {D : Domain} {a : Action} {m : Moment} {head rows numbers usages : List ℕ} (M : MomentOf D a m head rows numbers usages) {k : ℕ} (h : k < length (classes D a)) {sole : Sole} (s : sole ≡ sole_of numbers usages k) where
-  conditions_are : sole.conditions ≡ sole_at (class_numbers D a) (pad 64 (own_usages a m)) k 1
-  conditions_are = ap (λ (r : Sole). r.conditions) s ∙ ap₂ (λ (o c : List ℕ). sole_at o c k 1) M.numbers_are M.usages_are
+  conditions_are : sole.conditions ≡ count_of (sole_at (class_numbers D a) (pad 64 (own_usages a m)) k 1)
+  conditions_are = ap (λ (r : Sole). r.conditions) s ∙ ap₂ (λ (o c : List ℕ). count_of (sole_at o c k 1)) M.numbers_are M.usages_are
 
-  adds_are : sole.adds ≡ sole_at (class_numbers D a) (pad 64 (own_usages a m)) k 3
-  adds_are = ap (λ (r : Sole). r.adds) s ∙ ap₂ (λ (o c : List ℕ). sole_at o c k 3) M.numbers_are M.usages_are
+  adds_are : sole.adds ≡ count_of (sole_at (class_numbers D a) (pad 64 (own_usages a m)) k 3)
+  adds_are = ap (λ (r : Sole). r.adds) s ∙ ap₂ (λ (o c : List ℕ). count_of (sole_at o c k 3)) M.numbers_are M.usages_are
 
-  pub no_conditions : sole.conditions ≡ 0 → length (in_class D a (get_or (classes D a) k []) m Positive) ≡ 0
-  no_conditions z = none_in D a (its_bounds M) M.whole.listed m k h Positive (sym conditions_are ∙ z)
+  pub no_conditions : sole.conditions ≡ Zero → length (in_class D a (get_or (classes D a) k []) m Positive) ≡ 0
+  no_conditions z = none_in D a (its_bounds M) M.whole.listed m k h Positive (count_zero _ (sym conditions_are ∙ z))
 
-  pub many_conditions : sole.conditions ≡ 255 → 2 ≤ length (in_class D a (get_or (classes D a) k []) m Positive)
-  many_conditions z = many_in D a (its_bounds M) M.whole.listed m k h Positive (sym conditions_are ∙ z)
+  pub many_conditions : sole.conditions ≡ More → 2 ≤ length (in_class D a (get_or (classes D a) k []) m Positive)
+  many_conditions z = many_in D a (its_bounds M) M.whole.listed m k h Positive (count_more _ (sym conditions_are ∙ z))
 
-  pub one_condition : (sole.conditions ≡ 0 → ⊥) → (sole.conditions ≡ 255 → ⊥) → length (in_class D a (get_or (classes D a) k []) m Positive) ≡ 1
-  one_condition y z = one_in D a (its_bounds M) M.whole.listed m k h Positive (λ w. y (conditions_are ∙ w)) (λ w. z (conditions_are ∙ w))
+  pub one_condition : {j : ℕ} → sole.conditions ≡ One j → length (in_class D a (get_or (classes D a) k []) m Positive) ≡ 1
+  one_condition z = let o = count_one _ (sym conditions_are ∙ z) in one_in D a (its_bounds M) M.whole.listed m k h Positive o.0 o.1
 
-  pub no_adds : sole.adds ≡ 0 → length (in_class D a (get_or (classes D a) k []) m Add) ≡ 0
-  no_adds z = none_in D a (its_bounds M) M.whole.listed m k h Add (sym adds_are ∙ z)
+  pub no_adds : sole.adds ≡ Zero → length (in_class D a (get_or (classes D a) k []) m Add) ≡ 0
+  no_adds z = none_in D a (its_bounds M) M.whole.listed m k h Add (count_zero _ (sym adds_are ∙ z))
 
-  pub many_adds : sole.adds ≡ 255 → 2 ≤ length (in_class D a (get_or (classes D a) k []) m Add)
-  many_adds z = many_in D a (its_bounds M) M.whole.listed m k h Add (sym adds_are ∙ z)
+  pub many_adds : sole.adds ≡ More → 2 ≤ length (in_class D a (get_or (classes D a) k []) m Add)
+  many_adds z = many_in D a (its_bounds M) M.whole.listed m k h Add (count_more _ (sym adds_are ∙ z))
 
-  pub one_add : (sole.adds ≡ 0 → ⊥) → (sole.adds ≡ 255 → ⊥) → length (in_class D a (get_or (classes D a) k []) m Add) ≡ 1
-  one_add y z = one_in D a (its_bounds M) M.whole.listed m k h Add (λ w. y (adds_are ∙ w)) (λ w. z (adds_are ∙ w))
+  pub one_add : {j : ℕ} → sole.adds ≡ One j → length (in_class D a (get_or (classes D a) k []) m Add) ≡ 1
+  one_add z = let o = count_one _ (sym adds_are ∙ z) in one_in D a (its_bounds M) M.whole.listed m k h Add o.0 o.1
 
-  pub some_conditions : (sole.conditions ≡ 0 → ⊥) → length (in_class D a (get_or (classes D a) k []) m Positive) ≡ 0 → ⊥
-  some_conditions y z = go (bool_cases (eqb sole.conditions 255))
+  pub some_conditions : (sole.conditions ≡ Zero → ⊥) → length (in_class D a (get_or (classes D a) k []) m Positive) ≡ 0 → ⊥
+  some_conditions y z = go sole.conditions refl
     where
-      go : (eqb sole.conditions 255 ≡ true) ⊎ (eqb sole.conditions 255 ≡ false) → ⊥
-      go (inl t) = let n = many_conditions (eqb-true _ _ t) in omega arith
-      go (inr t) = let n = one_condition y (eqb-false _ _ t) in omega arith
+      go : (c : Count) → sole.conditions ≡ c → ⊥
+      go Zero e = y e
+      go (One j) e = let n = one_condition e in omega arith
+      go More e = let n = many_conditions e in omega arith
 
-  pub some_adds : (sole.adds ≡ 0 → ⊥) → length (in_class D a (get_or (classes D a) k []) m Add) ≡ 0 → ⊥
-  some_adds y z = go (bool_cases (eqb sole.adds 255))
+  pub other_conditions : ((j : ℕ) → sole.conditions ≡ One j → ⊥) → length (in_class D a (get_or (classes D a) k []) m Positive) ≡ 1 → ⊥
+  other_conditions y z = go sole.conditions refl
     where
-      go : (eqb sole.adds 255 ≡ true) ⊎ (eqb sole.adds 255 ≡ false) → ⊥
-      go (inl t) = let n = many_adds (eqb-true _ _ t) in omega arith
-      go (inr t) = let n = one_add y (eqb-false _ _ t) in omega arith
+      go : (c : Count) → sole.conditions ≡ c → ⊥
+      go Zero e = let n = no_conditions e in omega arith
+      go (One j) e = y j e
+      go More e = let n = many_conditions e in omega arith
 
-  module _ (some : sole.conditions ≡ 0 → ⊥) (few : sole.conditions ≡ 255 → ⊥) where
-    pub changed_held : changed_at rows numbers usages k (sole.conditions - 1)
+  pub some_adds : (sole.adds ≡ Zero → ⊥) → length (in_class D a (get_or (classes D a) k []) m Add) ≡ 0 → ⊥
+  some_adds y z = go sole.adds refl
+    where
+      go : (c : Count) → sole.adds ≡ c → ⊥
+      go Zero e = y e
+      go (One j) e = let n = one_add e in omega arith
+      go More e = let n = many_adds e in omega arith
+
+  pub other_adds : ((j : ℕ) → sole.adds ≡ One j → ⊥) → length (in_class D a (get_or (classes D a) k []) m Add) ≡ 1 → ⊥
+  other_adds y z = go sole.adds refl
+    where
+      go : (c : Count) → sole.adds ≡ c → ⊥
+      go Zero e = let n = no_adds e in omega arith
+      go (One j) e = y j e
+      go More e = let n = many_adds e in omega arith
+
+  module _ {j : ℕ} (one : sole.conditions ≡ One j) where
+    abbrev its : (sole_at (class_numbers D a) (pad 64 (own_usages a m)) k 1 ≡ 0 → ⊥) × (sole_at (class_numbers D a) (pad 64 (own_usages a m)) k 1 ≡ 255 → ⊥)
+        × (sole_at (class_numbers D a) (pad 64 (own_usages a m)) k 1 - 1 ≡ j)
+    its = count_one _ (sym conditions_are ∙ one)
+
+    pub changed_held : changed_at rows numbers usages k j
         ≡ all (changed_by (in_class D a (get_or (classes D a) k []) m Add) (in_class D a (get_or (classes D a) k []) m Delete)) (in_class D a (get_or (classes D a) k []) m Positive)
     changed_held =
-        (λ t. changed_at (M.whole.literals t) (M.numbers_are t) (M.usages_are t) k (conditions_are t - 1))
-        ∙ changed_in D a (its_bounds M) M.whole.listed m k h (λ w. some (conditions_are ∙ w)) (λ w. few (conditions_are ∙ w))
+        (λ t. changed_at (M.whole.literals t) (M.numbers_are t) (M.usages_are t) k (sym its.2 t))
+        ∙ changed_in D a (its_bounds M) M.whole.listed m k h its.0 its.1
 
-    pub deleted_held : deleted_in rows numbers usages k (sole.conditions - 1)
+    pub deleted_held : deleted_in rows numbers usages k j
         ≡ all (deleted_by (in_class D a (get_or (classes D a) k []) m Delete)) (in_class D a (get_or (classes D a) k []) m Positive)
     deleted_held =
-        (λ t. deleted_in (M.whole.literals t) (M.numbers_are t) (M.usages_are t) k (conditions_are t - 1))
-        ∙ deleted_in_lem D a (its_bounds M) M.whole.listed m k h (λ w. some (conditions_are ∙ w)) (λ w. few (conditions_are ∙ w))
+        (λ t. deleted_in (M.whole.literals t) (M.numbers_are t) (M.usages_are t) k (sym its.2 t))
+        ∙ deleted_in_lem D a (its_bounds M) M.whole.listed m k h its.0 its.1
 
 -- where the only condition stands, a loop may look
-pub sole_inside : (numbers usages : List ℕ) (class : ℕ) {sole : Sole} → length numbers ≤ 64 → sole ≡ sole_of numbers usages class → (sole.conditions ≡ 0 → ⊥) → (sole.conditions ≡ 255 → ⊥)
-    → sole.conditions - 1 < length numbers
+pub sole_inside : (numbers usages : List ℕ) (class : ℕ) {sole : Sole} → length numbers ≤ 64 → sole ≡ sole_of numbers usages class → {j : ℕ} → sole.conditions ≡ One j
+    → j < length numbers
 unfolding sole_at
-sole_inside numbers usages class h e some few =
-    let c = ap (λ (r : Sole). r.conditions) e in
-    rw c (sole_less (is_at numbers usages class 1) (length numbers) h (λ w. some (c ∙ w)) (λ w. few (c ∙ w)))
+sole_inside numbers usages class h e one =
+    let o = count_one _ (sym (ap (λ (r : Sole). r.conditions) e) ∙ one) in
+    rw (← o.2) (sole_less (is_at numbers usages class 1) (length numbers) h o.0 o.1)
 
 -- ---- whether a class has an over-all literal
 
@@ -559,16 +613,30 @@ name_is D a x m =
     (all (changed_by (in_class D a x m Add) (in_class D a x m Delete)) (in_class D a x m Positive)))
     (sym (position_none (covered (excluding D a x m)) D.template))
 
+place_past : (n c : ℕ) → place_below n c ≡ None → n ≤ c
+place_past n c e = go (ltb c n) refl e
+  where
+    go : (b : Bool) → ltb c n ≡ b → cond b (Some c) None ≡ None → n ≤ c
+    go true t q = cc
+    go false f q = ltb-false c n f
+
+place_within : (n c : ℕ) {d : ℕ} → place_below n c ≡ Some d → c < n
+place_within n c {d} e = go (ltb c n) refl e
+  where
+    go : (b : Bool) → ltb c n ≡ b → cond b (Some c) None ≡ Some d → c < n
+    go true t q = ltb-true c n t
+    go false f q = cc
+
 -- ---- the name of a class, as the code finds it: `reach` tells which of its literals is asked as a true condition
 
 module _ {D : Domain} {a : Action} {m : Moment} {head rows numbers usages : List ℕ} (M : MomentOf D a m head rows numbers usages) {k : ℕ} (h : k < length (classes D a)) {sole : Sole} (s : sole ≡ sole_of numbers usages k)
-    {reach : ℕ} (r : reach ≡ reach_at D a m k) where
-  pub unreachable_named : reach ≡ 255 → Unreachable ≡ name_of D a (get_or (classes D a) k []) m
+    {reach : Count} (r : reach ≡ count_of (reach_at D a m k)) where
+  pub unreachable_named : reach ≡ More → Unreachable ≡ name_of D a (get_or (classes D a) k []) m
   unfolding reach_at
-  unreachable_named z = sym (name_is D a (get_or (classes D a) k []) m ∙ by_unreachable _ _ _ _ _ (reach_many D a (its_bounds M) M.whole.listed m k h (sym r ∙ z)))
+  unreachable_named z = sym (name_is D a (get_or (classes D a) k []) m ∙ by_unreachable _ _ _ _ _ (reach_many D a (its_bounds M) M.whole.listed m k h (count_more _ (sym r ∙ z))))
 
   -- two own true conditions are enough
-  pub own_unreachable_named : sole.conditions ≡ 255 → Unreachable ≡ name_of D a (get_or (classes D a) k []) m
+  pub own_unreachable_named : sole.conditions ≡ More → Unreachable ≡ name_of D a (get_or (classes D a) k []) m
   own_unreachable_named z =
       sym (name_is D a (get_or (classes D a) k []) m ∙ by_unreachable _ _ _ _ _ (go (bool_cases (leb 2 (length (reach_in D a (get_or (classes D a) k []) m))))))
     where
@@ -579,38 +647,45 @@ module _ {D : Domain} {a : Action} {m : Moment} {head rows numbers usages : List
           let v = own_few D a (get_or (classes D a) k []) m (omega arith) in
           let w = many_conditions M h s z in absurd (omega arith)
 
-  module _ (rare : reach ≡ 255 → ⊥) (few : sole.conditions ≡ 255 → ⊥) where
+  module _ (rare : reach ≡ More → ⊥) where
     few_asked : length (reach_in D a (get_or (classes D a) k []) m) ≤ 1
     unfolding reach_at
-    few_asked = reach_few D a (its_bounds M) M.whole.listed m k h (λ z. rare (r ∙ z))
+    few_asked = reach_few D a (its_bounds M) M.whole.listed m k h (λ z. rare (r ∙ ap count_of z))
 
-    pub irrelevant_named : sole.adds ≡ 0 → Irrelevant ≡ name_of D a (get_or (classes D a) k []) m
+    pub irrelevant_named : sole.adds ≡ Zero → Irrelevant ≡ name_of D a (get_or (classes D a) k []) m
     irrelevant_named z = sym (name_is D a (get_or (classes D a) k []) m ∙ by_irrelevant _ _ _ _ _ few_asked (no_adds M h s z))
 
-    pub heavy_named : sole.adds ≡ 255 → Heavy ≡ name_of D a (get_or (classes D a) k []) m
+    pub heavy_named : sole.adds ≡ More → Heavy ≡ name_of D a (get_or (classes D a) k []) m
     heavy_named z = sym (name_is D a (get_or (classes D a) k []) m ∙ by_heavy _ _ _ _ _ few_asked (many_adds M h s z))
 
-    module _ (added : sole.adds ≡ 0 → ⊥) (light : sole.adds ≡ 255 → ⊥) where
-      pub changed_named : (sole.conditions ≡ 0 → ⊥) → (t : Bool) → changed_at rows numbers usages k (sole.conditions - 1) ≡ t → cond t Balanced Unbalanced ≡ name_of D a (get_or (classes D a) k []) m
-      changed_named some t c =
+    module _ {i : ℕ} (added : sole.adds ≡ One i) where
+      pub changed_named : {j : ℕ} → sole.conditions ≡ One j → (t : Bool) → changed_at rows numbers usages k j ≡ t → cond t Balanced Unbalanced ≡ name_of D a (get_or (classes D a) k []) m
+      changed_named one t c =
           sym (name_is D a (get_or (classes D a) k []) m
-          ∙ by_changed _ _ _ _ _ few_asked (one_condition M h s some few) (one_add M h s added light)
-          ∙ ap (λ (b : Bool). cond b Balanced Unbalanced) (sym (changed_held M h s some few) ∙ c))
+          ∙ by_changed _ _ _ _ _ few_asked (one_condition M h s one) (one_add M h s added)
+          ∙ ap (λ (b : Bool). cond b Balanced Unbalanced) (sym (changed_held M h s one) ∙ c))
 
-      pub covered_named : sole.conditions ≡ 0 → (u n : ℕ) → u ≡ uncovered_at D a (get_or (classes D a) k []) m → n ≡ length D.template → (t : Bool) → eqb u n ≡ t
-          → cond t Bounded Unbounded ≡ name_of D a (get_or (classes D a) k []) m
-      covered_named none u n p z t c =
-          sym (name_is D a (get_or (classes D a) k []) m
-          ∙ by_covered _ _ _ _ _ few_asked (no_conditions M h s none) (one_add M h s added light)
-          ∙ ap (λ (b : Bool). cond b Bounded Unbounded) (ap₂ eqb (sym p) (sym z) ∙ c))
+      module _ (none : sole.conditions ≡ Zero) where
+        covered_named : (t : Bool) → eqb (uncovered_at D a (get_or (classes D a) k []) m) (length D.template) ≡ t → cond t Bounded Unbounded ≡ name_of D a (get_or (classes D a) k []) m
+        covered_named t c =
+            sym (name_is D a (get_or (classes D a) k []) m
+            ∙ by_covered _ _ _ _ _ few_asked (no_conditions M h s none) (one_add M h s added)
+            ∙ ap (λ (b : Bool). cond b Bounded Unbounded) c)
+
+        pub bounded_named : place_below (length D.template) (uncovered_at D a (get_or (classes D a) k []) m) ≡ None → Bounded ≡ name_of D a (get_or (classes D a) k []) m
+        unfolding uncovered_at
+        bounded_named e = covered_named true (eq-eqb _ _ (let g = place_past _ _ e in omega (arith, place_le (λ c. not (covered (excluding D a (get_or (classes D a) k []) m) c)) D.template)))
+
+        pub unbounded_named : {c : ℕ} → place_below (length D.template) (uncovered_at D a (get_or (classes D a) k []) m) ≡ Some c → Unbounded ≡ name_of D a (get_or (classes D a) k []) m
+        unbounded_named e = covered_named false (ne_eqb _ _ (λ z. let g = place_within _ _ e in omega arith))
 
 -- what is asked at a start is its own
 pub asked_at_start : {D : Domain} {a : Action} {head rows numbers usages : List ℕ} → MomentOf D a Start head rows numbers usages → (k : ℕ) {sole : Sole} → sole ≡ sole_of numbers usages k
-    → sole.conditions ≡ reach_at D a Start k
+    → sole.conditions ≡ count_of (reach_at D a Start k)
 unfolding reach_at
 asked_at_start {D} {a} M k s =
     ap (λ (r : Sole). r.conditions) s
-    ∙ ap₂ (λ (o c : List ℕ). sole_at o c k 1) M.numbers_are (M.usages_are ∙ ap (pad 64) (sym (asked_start a)))
+    ∙ ap₂ (λ (o c : List ℕ). count_of (sole_at o c k 1)) M.numbers_are (M.usages_are ∙ ap (pad 64) (sym (asked_start a)))
 
 -- ---- whether it is a journey
 

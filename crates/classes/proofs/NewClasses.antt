@@ -4,13 +4,15 @@ use mathlib.Core.Bool.{Bool, true, false, ◌||◌, cond}
 use mathlib.Core.Logic.{◌⊎◌, inl, inr}
 use mathlib.Core.List.{List, [], ◌∷◌, map}
 use Prim.Native.Nat.{ℕ, zero, suc, ◌+◌, ◌≤◌, ◌<◌}
-use native.Mathlib.Numerals.{add-one}
 use native.Mathlib.Omega.{arith}
-use lib.Dec.{eqb}
-use lib.ListN.{length, get_or, set, take, drop, replicate, drop_of_length-le}
-use lib.Seq.{drop-cons, get_or-take, length-take-le}
-use borrow.Author.Tests.{eq-eqb, ne_eqb}
+use lib.Dec.{eqb, ltb}
+use lib.ListN.{length, get_or, set, take, drop, replicate}
+use lib.Seq.{length-take-le}
+use borrow.Author.Tests.{eq-eqb, ne_eqb, le-ltb, ltb-true, ltb-false}
+use Rattle.std.specs.Prelude.{Some, None, position as optional}
+use Rattle.std.specs.List.{position_or_len}
 use Rattle.records.specs.Lists.{any, position}
+use Rattle.records.proofs.Chains.{position_is}
 use Rattle.records.proofs.Lists.{bool_cases, clash}
 use Rattle.literals.specs.Decode.{byte}
 use Rattle.literals.proofs.Rows.{part_at}
@@ -19,80 +21,82 @@ use Rattle.literals.specs.Held.{components_in, keys_in, component_row_in, compon
 use Rattle.classes.specs.Held.{numbered_by, words_after, only_row}
 use Rattle.literals.proofs.KeyRows.{place_le, key_rows_none, key_rows_one}
 
--- ---- the first of n numbers that passes, from the number c on
+-- ---- the first number that passes
 
-module _ (p : ℕ → Bool) (words : List ℕ) (n : ℕ) (room : n ≤ length words) where
-  abbrev first : List ℕ
-  first = take n words
+module _ {A : Type 0} (p : A → Bool) (xs : List A) where
+  pub place_none : optional p xs ≡ None → position p xs ≡ length xs
+  place_none e = go (ltb (position_or_len p xs) (length xs)) refl e
+    where
+      go : (b : Bool) → ltb (position_or_len p xs) (length xs) ≡ b → cond b (Some (position_or_len p xs)) None ≡ None → position p xs ≡ length xs
+      go true t q = cc
+      go false f q = let g = ltb-false _ _ f in omega (arith, position_is p xs, place_le p xs)
 
-  length_first : length first ≡ n
-  length_first = length-take-le n words room
+  pub place_some : {i : ℕ} → optional p xs ≡ Some i → (position p xs ≡ i) × (i < length xs)
+  place_some {i} e = go (ltb (position_or_len p xs) (length xs)) refl e
+    where
+      go : (b : Bool) → ltb (position_or_len p xs) (length xs) ≡ b → cond b (Some (position_or_len p xs)) None ≡ Some i → (position p xs ≡ i) × (i < length xs)
+      go true t q =
+          let g = ltb-true _ _ t in
+          let e : position_or_len p xs ≡ i = cc in
+          (omega (arith, position_is p xs), omega arith)
+      go false f q = cc
 
-  pub first_end : (c : ℕ) → n ≤ c → c + position p (drop c first) ≡ c
-  first_end c h =
-      let l = length_first in
-      ap (λ (xs : List ℕ). c + position p xs) (drop_of_length-le first {i = c} (omega arith)) ∙ omega arith
+pub none_passes : {A : Type 0} (p : A → Bool) (xs : List A) → position p xs ≡ length xs → (j : ℕ) (d : A) → j < length xs → p (get_or xs j d) ≡ false
+none_passes p [] e j d h = absurd (omega arith)
+none_passes p (x ∷ xs) e j d h = go (p x) refl e (λ f k g. none_passes p xs f k d g) j h
+  where
+    go : (b : Bool) → p x ≡ b → cond b zero (suc (position p xs)) ≡ suc (length xs)
+        → (position p xs ≡ length xs → (k : ℕ) → k < length xs → p (get_or xs k d) ≡ false) → (j : ℕ) → j < suc (length xs) → p (get_or (x ∷ xs) j d) ≡ false
+    go true t e more j h = absurd (omega arith)
+    go false t e more zero h = t
+    go false t e more (suc j) h = more (omega arith) j (omega arith)
 
-  module _ (c : ℕ) (h : c < n) where
-    next : drop c first ≡ get_or words c 0 ∷ drop (suc c) first
-    next =
-        let l = length_first in
-        drop-cons first c 0 (omega arith) ∙ ap (λ (x : ℕ). x ∷ drop (suc c) first) (get_or-take n words c 0 h)
-
-    pub first_hit : p (get_or words c 0) ≡ true → c + position p (drop c first) ≡ c
-    first_hit t =
-        ap (λ (xs : List ℕ). c + position p xs) next
-        ∙ ap (λ (b : Bool). c + cond b zero (suc (position p (drop (suc c) first)))) t
-        ∙ omega arith
-
-    pub first_miss : p (get_or words c 0) ≡ false → c + 1 + position p (drop (c + 1) first) ≡ c + position p (drop c first)
-    first_miss t =
-        let e : c + position p (drop c first) ≡ c + suc (position p (drop (suc c) first)) =
-        ap (λ (xs : List ℕ). c + position p xs) next
-        ∙ ap (λ (b : Bool). c + cond b zero (suc (position p (drop (suc c) first)))) t in
-        let f : position p (drop (c + 1) first) ≡ position p (drop (suc c) first) = ap (λ (k : ℕ). position p (drop k first)) (add-one c) in
-        omega arith
-
--- ---- a loop without an exit: what is found so far, and the numbers from c on
-
-pub none_found : (p : ℕ → Bool) (xs : List ℕ) → any p xs ≡ false → position p xs ≡ length xs
-none_found p [] e = refl
-none_found p (x ∷ xs) e = go (bool_cases (p x)) (none_found p xs)
+-- none passes
+none_place : {A : Type 0} (p : A → Bool) (xs : List A) → any p xs ≡ false → position p xs ≡ length xs
+none_place p [] e = refl
+none_place p (x ∷ xs) e = go (bool_cases (p x)) (none_place p xs)
   where
     go : (p x ≡ true) ⊎ (p x ≡ false) → (any p xs ≡ false → position p xs ≡ length xs) → position p (x ∷ xs) ≡ length (x ∷ xs)
     go (inl t) more = absurd (clash {b = any p (x ∷ xs)} (ap (λ (b : Bool). b || any p xs) t) e)
     go (inr f) more = rw (f, more (sym (ap (λ (b : Bool). b || any p xs) f) ∙ e))
 
-module _ (p : ℕ → Bool) (words : List ℕ) (n : ℕ) (room : n ≤ length words) where
-  pub seen_end : (c : ℕ) → n ≤ c → (found : Bool) → found ≡ (found || any p (drop c (take n words)))
-  seen_end c h true = refl
-  seen_end c h false =
-      let l = length_first p words n room in
-      sym (ap (λ (xs : List ℕ). any p xs) (drop_of_length-le (take n words) {i = c} (omega arith)))
-
-  pub seen_step : (c : ℕ) → c < n → (found r : Bool) → r ≡ (found || p (get_or words c 0))
-      → (r || any p (drop (c + 1) (take n words))) ≡ (found || any p (drop c (take n words)))
-  seen_step c h true r e = rw e
-  seen_step c h false r e = rw (e, next p words n room c h, add-one c)
+pub none_found : {A : Type 0} (p : A → Bool) (xs : List A) → any p xs ≡ false → optional p xs ≡ None
+none_found p xs e =
+    ap (λ (k : ℕ). cond (ltb k (length xs)) (Some k) None) (sym (position_is p xs) ∙ none_place p xs e)
+    ∙ ap (λ (b : Bool). cond b (Some (length xs)) None) (le-ltb (length xs) (length xs) (omega arith))
 
 -- ---- one literal's class
 
-module _ (w : ℕ) (words : List ℕ) (count class : ℕ) (e : class ≡ position (eqb w) (take count words)) where
-  numbered_new : class ≡ count → record { class = class; count = count + 1 } ≡ numbered_by (w ∷ []) count words
-  unfolding numbered_by
-  numbered_new f = rw (← e, eq-eqb class count f)
+module _ (w : ℕ) (words : List ℕ) (count : ℕ) (r : count ≤ length words) where
+  held : length (take count words) ≡ count
+  held = length-take-le count words r
 
-  numbered_old : (class ≡ count → ⊥) → record { class = class; count = count } ≡ numbered_by (w ∷ []) count words
-  unfolding numbered_by
-  numbered_old f = rw (← e, ne_eqb class count f)
+  module _ (e : optional (eqb w) (take count words) ≡ None) where
+    last : position (eqb w) (take count words) ≡ count
+    last = place_none (eqb w) (take count words) e ∙ held
 
-  words_new : class ≡ count → set words count w ≡ words_after (w ∷ []) count words
-  unfolding words_after
-  words_new f = rw (← e, eq-eqb class count f)
+    numbered_new : record { class = Some count; count = count + 1 } ≡ numbered_by (w ∷ []) count words
+    unfolding numbered_by
+    numbered_new = rw (last, eq-eqb count count refl)
 
-  words_old : (class ≡ count → ⊥) → words ≡ words_after (w ∷ []) count words
-  unfolding words_after
-  words_old f = rw (← e, ne_eqb class count f)
+    words_new : set words count w ≡ words_after (w ∷ []) count words
+    unfolding words_after
+    words_new = rw (last, eq-eqb count count refl)
+
+  module _ {class : ℕ} (e : optional (eqb w) (take count words) ≡ Some class) where
+    first : position (eqb w) (take count words) ≡ class
+    first = (place_some (eqb w) (take count words) e).0
+
+    pub class_less : class < count
+    class_less = let l = (place_some (eqb w) (take count words) e).1 in let h = held in omega arith
+
+    numbered_old : record { class = Some class; count = count } ≡ numbered_by (w ∷ []) count words
+    unfolding numbered_by
+    numbered_old = rw (first, ne_eqb class count (λ z. let l = class_less in omega arith))
+
+    words_old : words ≡ words_after (w ∷ []) count words
+    unfolding words_after
+    words_old = rw (first, ne_eqb class count (λ z. let l = class_less in omega arith))
 
 -- by the place of the component of its relation
 module _ (head rows : List ℕ) (at c : ℕ) (g : at + 8 ≤ length rows) (e : c ≡ position (λ row. eqb (get_or rows (at + 1) 0) (byte row 0)) (component_rows_in head)) where
@@ -107,7 +111,7 @@ module _ (head rows : List ℕ) (at c : ℕ) (g : at + 8 ≤ length rows) (e : c
   unmatched_tuple f = sym (ap only_row (unmatched_rows f))
 
   pub unmatched : (count : ℕ) (words : List ℕ) → c ≡ components_in head
-      → (record { class = 255; count = count } ≡ numbered_by (key_words_in head (take 8 (drop at rows))) count words)
+      → (record { class = None; count = count } ≡ numbered_by (key_words_in head (take 8 (drop at rows))) count words)
       × (words ≡ words_after (key_words_in head (take 8 (drop at rows))) count words)
   unfolding numbered_by words_after key_words_in
   unmatched count words f = rw (unmatched_rows f) (refl, refl)
@@ -130,16 +134,13 @@ module _ (head rows : List ℕ) (at c : ℕ) (g : at + 8 ≤ length rows) (e : c
       unfolding key_words_in key_word
       matched = ap (map (row_word (keys_in head))) matched_rows ∙ ap (λ (x : ℕ). x ∷ []) (sym f)
 
-      module _ (count : ℕ) (words : List ℕ) (class : ℕ) (q : class ≡ position (eqb w) (take count words)) where
-        pub class_le : count ≤ length words → class ≤ count
-        class_le l = omega (arith, place_le (eqb w) (take count words), length-take-le count words l)
-
-        pub new_class : class ≡ count → (out : List ℕ) → out ≡ set words count w
-            → (record { class = class; count = count + 1 } ≡ numbered_by (key_words_in head (take 8 (drop at rows))) count words)
+      module _ (count : ℕ) (words : List ℕ) (r : count ≤ length words) where
+        pub new_class : optional (eqb w) (take count words) ≡ None → (out : List ℕ) → out ≡ set words count w
+            → (record { class = Some count; count = count + 1 } ≡ numbered_by (key_words_in head (take 8 (drop at rows))) count words)
             × (out ≡ words_after (key_words_in head (take 8 (drop at rows))) count words)
-        new_class z out o = rw matched (numbered_new w words count class q z, o ∙ words_new w words count class q z)
+        new_class q out o = rw matched (numbered_new w words count r q, o ∙ words_new w words count r q)
 
-        pub old_class : (class ≡ count → ⊥)
-            → (record { class = class; count = count } ≡ numbered_by (key_words_in head (take 8 (drop at rows))) count words)
+        pub old_class : {class : ℕ} → optional (eqb w) (take count words) ≡ Some class
+            → (record { class = Some class; count = count } ≡ numbered_by (key_words_in head (take 8 (drop at rows))) count words)
             × (words ≡ words_after (key_words_in head (take 8 (drop at rows))) count words)
-        old_class z = rw matched (numbered_old w words count class q z, words_old w words count class q z)
+        old_class q = rw matched (numbered_old w words count r q, words_old w words count r q)

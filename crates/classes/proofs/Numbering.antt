@@ -25,10 +25,10 @@ use Rattle.literals.proofs.Held.{keys_few}
 use Rattle.classes.specs.declared.number.NumberedLiteral.{NumberedLiteral}
 use Rattle.literals.specs.Matching.{tuples_of}
 use Rattle.classes.specs.Classes.{literal_tuples, belongs, classes}
-use Rattle.classes.specs.Held.{ActionOf, class_number_by, class_numbers, tuple_row, only_row, numbered_by, words_after}
+use Rattle.classes.specs.Held.{ActionOf, class_number_by, class_byte, class_numbers, tuple_row, only_row, numbered_by, words_after}
 use Rattle.classes.proofs.Rows.{no_literal, literal_at, row_at_lem}
 use Rattle.classes.proofs.Members.{member}
-use Rattle.classes.proofs.Numbers.{One, Fits, tuples_one, tuples_rows, found, numbers, numbers_more, tuple_word, row_word_lem, words_of, numbered_more, words_more}
+use Rattle.classes.proofs.Numbers.{One, Fits, tuples_one, tuples_rows, found, numbers, numbers_more, class_in, class_in_byte, tuple_word, row_word_lem, words_of, numbered_more, words_more}
 
 or_none : (b : Bool) → b || false ≡ true → b ≡ true
 or_none true t = refl
@@ -116,7 +116,7 @@ module _ (head rows numbers₀ numbers' words₀ words words' : List ℕ) (count
     (e : o ≡ numbered_by (key_words_in head (take 8 (drop (8 * j) rows))) count words)
     (f : words' ≡ words_after (key_words_in head (take 8 (drop (8 * j) rows))) count words) where
   turn : (D : Domain) (a : Action) → ActionOf D a head rows
-      → Numbered-by D (take (j + 1) a.lits) numbers₀ (set numbers' j o.class) words₀ words' o.count
+      → Numbered-by D (take (j + 1) a.lits) numbers₀ (set numbers' j (class_byte o.class)) words₀ words' o.count
   turn D a A = rw (add-one j, take-suc a.lits j no_literal inside) after
     where
       before : Numbered-by D (take j a.lits) numbers₀ numbers' words₀ words count
@@ -143,14 +143,14 @@ module _ (head rows numbers₀ numbers' words₀ words words' : List ℕ) (count
           ap (key_words_in head) (row_of_lem A j inside)
           ∙ its_words A x (get_d_in a.lits j no_literal inside)
 
-      result : o ≡ record { class = class_number_by (found (tuples D) (take j a.lits ++ (x ∷ []))) (tuples D x); count = length (found (tuples D) (take j a.lits ++ (x ∷ []))) }
+      result : o ≡ record { class = class_in (found (tuples D) (take j a.lits ++ (x ∷ []))) (tuples D x); count = length (found (tuples D) (take j a.lits ++ (x ∷ []))) }
       result =
           e
           ∙ ap (λ (ws : List ℕ). numbered_by ws count words) keyed_by_lem
           ∙ ap₂ (numbered_by (map tuple_word (tuples D x))) before.counted before.words_are
           ∙ numbered_more (tuples D) (keys_of D.template) words₀ (take j a.lits) those x its
 
-      after : Numbered-by D (take j a.lits ++ (x ∷ [])) numbers₀ (set numbers' j o.class) words₀ words' o.count
+      after : Numbered-by D (take j a.lits ++ (x ∷ [])) numbers₀ (set numbers' j (class_byte o.class)) words₀ words' o.count
       after =
           record {
             words_are =
@@ -160,14 +160,14 @@ module _ (head rows numbers₀ numbers' words₀ words words' : List ℕ) (count
                 ∙ words_more (tuples D) (keys_of D.template) words₀ (take j a.lits) those x its space;
             counted = ap (λ (p : NumberedLiteral). p.count) result;
             given =
-                ap₂ (λ (t : List ℕ) (v : ℕ). set t j v) before.given (ap (λ (p : NumberedLiteral). p.class) result)
+                ap₂ (λ (t : List ℕ) (v : ℕ). set t j v) before.given (ap (λ (p : NumberedLiteral). class_byte p.class) result ∙ class_in_byte (found (tuples D) (take j a.lits ++ (x ∷ []))) (tuples D x))
                 ∙ over_more (numbers (tuples D) (take j a.lits)) numbers₀ j (class_number_by (found (tuples D) (take j a.lits ++ (x ∷ []))) (tuples D x))
                 (length-map (take j a.lits) (λ y. class_number_by (found (tuples D) (take j a.lits)) (tuples D y)) ∙ length-take-le j a.lits (omega (arith, inside)))
                 g
                 ∙ ap (λ (t : List ℕ). over t numbers₀) (sym (numbers_more (tuples D) (take j a.lits) x its));
           }
 
-  pub so_far_more : SoFar head rows numbers₀ (set numbers' j o.class) words₀ words' o.count (j + 1)
+  pub so_far_more : SoFar head rows numbers₀ (set numbers' j (class_byte o.class)) words₀ words' o.count (j + 1)
   so_far_more =
       record {
         few =
@@ -176,7 +176,7 @@ module _ (head rows numbers₀ numbers' words₀ words words' : List ℕ) (count
             let u = w.few in
             omega arith;
         reach = omega arith;
-        whole = length-set numbers' j o.class ∙ w.whole;
+        whole = length-set numbers' j (class_byte o.class) ∙ w.whole;
         room = m ∙ w.room;
         is = turn;
       }

@@ -28,7 +28,8 @@ use Rattle.literals.proofs.Bounds.{variables_in_lem}
 use Rattle.literals.proofs.Equality.{variables_eq, variables_self}
 use Rattle.literals.proofs.Tables.{value}
 use Rattle.literals.specs.Matching.{under, key_tuple, tuples_by}
-use Rattle.classes.specs.Held.{class_number_by, tuple_row, numbered_by, words_after}
+use Rattle.std.specs.Prelude.{Option, Some, None}
+use Rattle.classes.specs.Held.{class_byte, class_number_by, tuple_row, numbered_by, words_after}
 use Rattle.literals.proofs.KeyRows.{length_keys}
 
 abbrev pub same : List Variable → List Variable → Bool
@@ -369,11 +370,11 @@ module _ (n : ℕ) (words₀ : List ℕ) (xs : List (List Variable)) (ones : (x 
         ap (position (eqb (tuple_word t))) (take_at (map tuple_word xs) (drop (length (map tuple_word xs)) words₀) (length xs) (length-map xs tuple_word))
         ∙ place_map tuple_word (eqb (tuple_word t)) (same t) xs (λ x m. alike_words t x (e ∙ sym (ones x m).0) s (ones x m).1)
 
-    numbered_known : elem same t xs ≡ true → numbered_by (tuple_word t ∷ []) (length xs) (words_of xs words₀) ≡ record { class = position (same t) xs; count = length xs }
+    numbered_known : elem same t xs ≡ true → numbered_by (tuple_word t ∷ []) (length xs) (words_of xs words₀) ≡ record { class = Some (position (same t) xs); count = length xs }
     unfolding numbered_by
     numbered_known q =
-        ap (λ (c : ℕ). record { class = c; count = cond (eqb c (length xs)) (length xs + 1) (length xs) }) place_word
-        ∙ ap (λ (b : Bool). record { class = position (same t) xs; count = cond b (length xs + 1) (length xs) }) (ne_eqb (position (same t) xs) (length xs) (λ z. omega (arith, place_some (same t) xs q)))
+        ap (λ (c : ℕ). record { class = Some c; count = cond (eqb c (length xs)) (length xs + 1) (length xs) }) place_word
+        ∙ ap (λ (b : Bool). record { class = Some (position (same t) xs); count = cond b (length xs + 1) (length xs) }) (ne_eqb (position (same t) xs) (length xs) (λ z. omega (arith, place_some (same t) xs q)))
 
     words_known : elem same t xs ≡ true → words_after (tuple_word t ∷ []) (length xs) (words_of xs words₀) ≡ words_of xs words₀
     unfolding words_after
@@ -391,12 +392,12 @@ module _ (n : ℕ) (words₀ : List ℕ) (xs : List (List Variable)) (ones : (x 
       length_joined : length xs + 1 ≡ length (xs ++ (t ∷ []))
       length_joined = sym (length-append xs (t ∷ []))
 
-      numbered_joined : numbered_by (tuple_word t ∷ []) (length xs) (words_of xs words₀) ≡ record { class = position (same t) (xs ++ (t ∷ [])); count = length (xs ++ (t ∷ [])) }
+      numbered_joined : numbered_by (tuple_word t ∷ []) (length xs) (words_of xs words₀) ≡ record { class = Some (position (same t) (xs ++ (t ∷ []))); count = length (xs ++ (t ∷ [])) }
       unfolding numbered_by
       numbered_joined =
-          ap (λ (c : ℕ). record { class = c; count = cond (eqb c (length xs)) (length xs + 1) (length xs) }) place_word
-          ∙ ap (λ (b : Bool). record { class = position (same t) xs; count = cond b (length xs + 1) (length xs) }) (eq-eqb (position (same t) xs) (length xs) place_last)
-          ∙ (λ i. record { class = place_joined i; count = length_joined i })
+          ap (λ (c : ℕ). record { class = Some c; count = cond (eqb c (length xs)) (length xs + 1) (length xs) }) place_word
+          ∙ ap (λ (b : Bool). record { class = Some (position (same t) xs); count = cond b (length xs + 1) (length xs) }) (eq-eqb (position (same t) xs) (length xs) place_last)
+          ∙ (λ i. record { class = Some (place_joined i); count = length_joined i })
 
       words_joined : length xs < length words₀ → words_after (tuple_word t ∷ []) (length xs) (words_of xs words₀) ≡ words_of (xs ++ (t ∷ [])) words₀
       unfolding words_after
@@ -406,27 +407,36 @@ module _ (n : ℕ) (words₀ : List ℕ) (xs : List (List Variable)) (ones : (x 
           ∙ over_more (map tuple_word xs) words₀ (length xs) (tuple_word t) (length-map xs tuple_word) room
           ∙ ap (λ (l : List ℕ). over l words₀) (sym (map-append tuple_word xs (t ∷ [])))
 
+-- the number of a literal's class among these, if it matches
+abbrev pub class_in : List (List Variable) → List (List Variable) → Option ℕ
+class_in xs [] = None
+class_in xs (t ∷ ts) = Some (position (same t) xs)
+
+pub class_in_byte : (xs ts : List (List Variable)) → class_byte (class_in xs ts) ≡ class_number_by xs ts
+class_in_byte xs [] = refl
+class_in_byte xs (t ∷ ts) = refl
+
 -- one literal more
 module _ (T : Literal → List (List Variable)) (n : ℕ) (words₀ : List ℕ) (ls : List Literal) (h : (l : Literal) → In l ls → One n (T l)) (l : Literal) where
   pub numbered_more : One n (T l)
       → numbered_by (map tuple_word (T l)) (length (found T ls)) (words_of (found T ls) words₀)
-      ≡ record { class = class_number_by (found T (ls ++ (l ∷ []))) (T l); count = length (found T (ls ++ (l ∷ []))) }
+      ≡ record { class = class_in (found T (ls ++ (l ∷ []))) (T l); count = length (found T (ls ++ (l ∷ []))) }
   unfolding numbered_by
   numbered_more (inl e) =
       rw (found_skip T ls l e, e)
   numbered_more (inr (t, e, q, s)) =
       ap (λ (ts : List (List Variable)). numbered_by (map tuple_word ts) (length (found T ls)) (words_of (found T ls) words₀)) e
       ∙ go (bool_cases (elem same t (found T ls)))
-      ∙ ap (λ (ts : List (List Variable)). record { class = class_number_by (found T (ls ++ (l ∷ []))) ts; count = length (found T (ls ++ (l ∷ []))) }) (sym e)
+      ∙ ap (λ (ts : List (List Variable)). record { class = class_in (found T (ls ++ (l ∷ []))) ts; count = length (found T (ls ++ (l ∷ []))) }) (sym e)
     where
       go : (elem same t (found T ls) ≡ true) ⊎ (elem same t (found T ls) ≡ false)
-          → numbered_by (tuple_word t ∷ []) (length (found T ls)) (words_of (found T ls) words₀) ≡ record { class = position (same t) (found T (ls ++ (l ∷ []))); count = length (found T (ls ++ (l ∷ []))) }
+          → numbered_by (tuple_word t ∷ []) (length (found T ls)) (words_of (found T ls) words₀) ≡ record { class = Some (position (same t) (found T (ls ++ (l ∷ [])))); count = length (found T (ls ++ (l ∷ []))) }
       go (inl b) =
           numbered_known n words₀ (found T ls) (found_ones T n ls h) t q s b
-          ∙ ap (λ (xs : List (List Variable)). record { class = position (same t) xs; count = length xs }) (found_known T ls l t e b)
+          ∙ ap (λ (xs : List (List Variable)). record { class = Some (position (same t) xs); count = length xs }) (found_known T ls l t e b)
       go (inr b) =
           numbered_joined n words₀ (found T ls) (found_ones T n ls h) t q s b
-          ∙ ap (λ (xs : List (List Variable)). record { class = position (same t) xs; count = length xs }) (found_joined T ls l t e b)
+          ∙ ap (λ (xs : List (List Variable)). record { class = Some (position (same t) xs); count = length xs }) (found_joined T ls l t e b)
 
   pub words_more : One n (T l) → length (found T ls) < length words₀
       → words_after (map tuple_word (T l)) (length (found T ls)) (words_of (found T ls) words₀) ≡ words_of (found T (ls ++ (l ∷ []))) words₀

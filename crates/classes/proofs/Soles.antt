@@ -8,9 +8,8 @@ use Prim.Native.Nat.{ℕ, zero, suc, ◌+◌, ◌-◌, ◌*◌, ◌≤◌, ◌<�
 use native.Mathlib.Numerals.{add-one}
 use native.Mathlib.Omega.{arith}
 use lib.Dec.{eqb}
-use lib.ListN.{length, get_or, set}
-use lib.Seq.{get_or-set_same, get_or-set_other}
-use borrow.Author.Tests.{eq-eqb, ne_eqb, eqb-true, eqb-false}
+use lib.ListN.{length, get_or}
+use borrow.Author.Tests.{ne_eqb, eqb-true, eqb-false}
 use Rattle.records.specs.Lists.{In, add_if, count_by, all, any, numbers_from, below}
 use Rattle.records.proofs.Lists.{bool_cases, clash, count_append}
 use Rattle.records.proofs.Memory.{get_d_fill}
@@ -23,8 +22,10 @@ use Rattle.literals.specs.declared.Usage.TheVariants.{Positive, Negative, Add, D
 use Rattle.literals.specs.declared.Role.{Role}
 use Rattle.literals.specs.Domain.{role_of}
 use Rattle.literals.specs.Held.{pad}
+use Rattle.classes.specs.declared.Count.{Count}
+use Rattle.classes.specs.declared.Count.TheVariants.{Zero, One, More}
 use Rattle.classes.specs.Held.{usage_at, usage_byte, may_meet, says_at, usage_in, is_at, sole_more, sole_by, sole_at, sole_of, section_of}
-use Rattle.classes.specs.Held.{counts_in, SolesOf, sole_in}
+use Rattle.classes.specs.Held.{count_of, counts_in, SolesOf, sole_in}
 use Rattle.literals.proofs.Tables.{pad_at}
 use Rattle.literals.proofs.Indices.{below_snoc, below_in, length_from, get_d_map}
 
@@ -151,55 +152,27 @@ module _ (p : ℕ → Bool) where
     pub sole_all : (n w : ℕ) → count_by p (below n) ≡ 1 → w < n → p w ≡ true → all (λ j. not (p j) || q j) (below n) ≡ q w
     sole_all n w e h t = all_only (below n) e (below_in n h) t
 
--- ---- one literal more, of a class, in one section of the notes
+-- ---- what a byte says of them
 
--- a place of the notes tells its section and its class
-same_place : (s t k l : ℕ) → k < 64 → l < 64 → eqb (64 * s + k) (64 * t + l) ≡ eqb s t && eqb k l
-same_place s t k l h g = go (bool_cases (eqb s t)) (bool_cases (eqb k l))
+count_cases : (n : ℕ) (P : Count → Type 0) → (n ≡ 0 → P Zero) → (n ≡ 255 → P More) → ((n ≡ 0 → ⊥) → (n ≡ 255 → ⊥) → P (One (n - 1))) → P (count_of n)
+count_cases n P none more one = go (eqb n 0) refl (eqb n 255) refl
   where
-    go : (eqb s t ≡ true) ⊎ (eqb s t ≡ false) → (eqb k l ≡ true) ⊎ (eqb k l ≡ false) → eqb (64 * s + k) (64 * t + l) ≡ eqb s t && eqb k l
-    go (inl p) (inl q) =
-        let e = eqb-true s t p in
-        let f = eqb-true k l q in
-        eq-eqb (64 * s + k) (64 * t + l) (omega arith) ∙ sym (ap₂ ◌&&◌ p q)
-    go (inl p) (inr q) =
-        let e = eqb-true s t p in
-        let n = eqb-false k l q in
-        ne_eqb (64 * s + k) (64 * t + l) (λ z. n (omega arith)) ∙ sym (ap₂ ◌&&◌ p q)
-    go (inr p) b =
-        let n = eqb-false s t p in
-        ne_eqb (64 * s + k) (64 * t + l) (λ z. n (omega arith)) ∙ sym (ap (λ (b : Bool). b && eqb k l) p)
+    go : (b : Bool) → eqb n 0 ≡ b → (c : Bool) → eqb n 255 ≡ c → P (cond b Zero (cond c More (One (n - 1))))
+    go true t c u = none (eqb-true n 0 t)
+    go false t true u = more (eqb-true n 255 u)
+    go false t false u = one (eqb-false n 0 t) (eqb-false n 255 u)
 
-module _ (soles : List ℕ) (section class j : ℕ) (room : length soles ≡ 320) (h : section < 5) (g : class < 64) where
-  abbrev place : ℕ
-  place = 64 * section + class
+module _ (n : ℕ) where
+  pub count_zero : count_of n ≡ Zero → n ≡ 0
+  count_zero = count_cases n (λ c. c ≡ Zero → n ≡ 0) (λ z e. z) (λ z e. cc) (λ y z e. cc)
 
-  noted : (v : ℕ) → v ≡ sole_more true j (get_or soles place 0) → (s k : ℕ) → s < 5 → k < 64
-      → get_or (set soles place v) (64 * s + k) 0 ≡ sole_more (eqb section s && eqb class k) j (get_or soles (64 * s + k) 0)
-  noted v e s k p q = go (bool_cases (eqb place (64 * s + k)))
-    where
-      told : {t : Bool} → eqb place (64 * s + k) ≡ t
-          → sole_more t j (get_or soles (64 * s + k) 0) ≡ sole_more (eqb section s && eqb class k) j (get_or soles (64 * s + k) 0)
-      told f = ap (λ (b : Bool). sole_more b j (get_or soles (64 * s + k) 0)) (sym f ∙ same_place section s class k g q)
+  pub count_more : count_of n ≡ More → n ≡ 255
+  count_more = count_cases n (λ c. c ≡ More → n ≡ 255) (λ z e. cc) (λ z e. z) (λ y z e. cc)
 
-      go : (eqb place (64 * s + k) ≡ true) ⊎ (eqb place (64 * s + k) ≡ false)
-          → get_or (set soles place v) (64 * s + k) 0 ≡ sole_more (eqb section s && eqb class k) j (get_or soles (64 * s + k) 0)
-      go (inl t) =
-          let same = eqb-true place (64 * s + k) t in
-          ap (λ (i : ℕ). get_or (set soles place v) i 0) (sym same)
-          ∙ get_or-set_same soles place v 0 (omega arith)
-          ∙ e
-          ∙ ap (λ (i : ℕ). sole_more true j (get_or soles i 0)) same
-          ∙ told t
-      go (inr f) = get_or-set_other soles place (64 * s + k) v 0 (λ z. eqb-false place (64 * s + k) f (sym z)) ∙ told f
+  pub count_one : {k : ℕ} → count_of n ≡ One k → (n ≡ 0 → ⊥) × (n ≡ 255 → ⊥) × (n - 1 ≡ k)
+  count_one {k} = count_cases n (λ c. c ≡ One k → (n ≡ 0 → ⊥) × (n ≡ 255 → ⊥) × (n - 1 ≡ k)) (λ z e. cc) (λ z e. cc) (λ y z e. (y, z, cc))
 
-  pub noted_first : get_or soles place 0 ≡ 0 → (s k : ℕ) → s < 5 → k < 64
-      → get_or (set soles place (j + 1)) (64 * s + k) 0 ≡ sole_more (eqb section s && eqb class k) j (get_or soles (64 * s + k) 0)
-  noted_first e = noted (j + 1) (ap (λ (s : ℕ). sole_more true j s) (sym e))
-
-  pub noted_again : (get_or soles place 0 ≡ 0 → ⊥) → (s k : ℕ) → s < 5 → k < 64
-      → get_or (set soles place 255) (64 * s + k) 0 ≡ sole_more (eqb section s && eqb class k) j (get_or soles (64 * s + k) 0)
-  noted_again n = noted 255 (sym (ap (λ (b : Bool). cond b (j + 1) 255) (ne_eqb (get_or soles place 0) 0 n)))
+-- ---- one literal more, of a class, in one section of the notes
 
 -- unless it is said before
 module _ (said : Bool) (s class k j old : ℕ) where
@@ -400,7 +373,7 @@ sole_agree p q (suc n) f = ap₂ (λ (b : Bool) (s : ℕ). sole_more b n s) (f n
 from_at : (i n j : ℕ) → j < n → get_or (numbers_from i n) j 0 ≡ i + j
 from_at i zero j h = absurd (omega arith)
 from_at i (suc n) zero h = omega arith
-from_at i (suc n) (suc j) h = from_at (suc i) n j (omega arith) ∙ omega arith
+from_at i (suc n) (suc j) h = from_at (i + 1) n j (omega arith) ∙ omega arith
 
 module _ (rows numbers : List ℕ) (w : Bool) (m : Moment) (usages : List ℕ)
     (e : usages ≡ pad 64 (map (usage_in w rows m) (below (length numbers)))) where
@@ -425,14 +398,14 @@ module _ (rows numbers usages soles : List ℕ) (S : SolesOf rows numbers soles)
   unfolding SolesOf counts_in
   start_soles e k h =
       let is = section_is rows numbers false Start usages e k in
-      ap₂ (λ (c d : ℕ). record { conditions = c; adds = d }) (S 0 k (omega arith) h ∙ is 1) (S 1 k (omega arith) h ∙ is 3)
+      ap₂ (λ (c d : ℕ). record { conditions = count_of c; adds = count_of d }) (S 0 k (omega arith) h ∙ is 1) (S 1 k (omega arith) h ∙ is 3)
 
   pub end_soles : usages ≡ pad 64 (map (usage_in false rows End) (below (length numbers))) → (k : ℕ) → k < 64
       → sole_in soles 2 k ≡ sole_of numbers usages k
   unfolding SolesOf counts_in
   end_soles e k h =
       let is = section_is rows numbers false End usages e k in
-      ap₂ (λ (c d : ℕ). record { conditions = c; adds = d }) (S 2 k (omega arith) h ∙ is 1) (S 3 k (omega arith) h ∙ is 3)
+      ap₂ (λ (c d : ℕ). record { conditions = count_of c; adds = count_of d }) (S 2 k (omega arith) h ∙ is 1) (S 3 k (omega arith) h ∙ is 3)
 
   pub asked_soles : usages ≡ pad 64 (map (usage_in true rows End) (below (length numbers))) → (k : ℕ) → k < 64
       → get_or soles (64 * 4 + k) 0 ≡ sole_at numbers usages k 1

@@ -99,16 +99,6 @@ counts_timed true End c r = both r.time (same_usage c r.usage)
     both AtEnd true = refl
     both AtEnd false = refl
 
--- the usage of a role at a moment, by its time
-pub usage_timed : (w : Bool) (m : Moment) (r : Role) → usage_at w m r ≡ cond (timed w m r.time) (suc (usage_number r.usage)) 0
-usage_timed w m r =
-    ap (λ (b : Bool). cond b (suc (usage_number r.usage)) 0)
-    (counts_timed w m r.usage r ∙ ap (λ (b : Bool). timed w m r.time && b) (eqb_same (usage_number r.usage)) ∙ whole (timed w m r.time))
-  where
-    whole : (b : Bool) → b && true ≡ b
-    whole true = refl
-    whole false = refl
-
 -- w: of the literals that are asked at a moment, or of its own
 module _ (w : Bool) where
   -- ---- by bytes

@@ -1,6 +1,6 @@
 -- How the code holds the classes of an action: class numbers, the usage of each literal at a moment, and what a name is decided by. Assumes
 -- nothing.
-use Rattle.std.specs.Prelude.{◌≡◌, Bool, true, false, ◌&&◌, ◌||◌, not, cond, ℕ, zero, suc, ◌+◌, ◌*◌, ◌≤◌, ◌<◌, eqb, ltb, leb, length, get_or, set, take, drop, replicate}
+use Rattle.std.specs.Prelude.{◌≡◌, Option, Some, None, Bool, true, false, ◌&&◌, ◌||◌, not, cond, ℕ, zero, suc, ◌+◌, ◌-◌, ◌*◌, ◌≤◌, ◌<◌, eqb, ltb, leb, length, get_or, set, take, drop, replicate}
 use mathlib.Core.List.{List, [], ◌∷◌, ◌++◌, map, flat_map}
 use Rattle.records.specs.Lists.{In, any, all, pairwise, same_list, position, below}
 use Rattle.literals.specs.declared.Variable.{Variable}
@@ -11,9 +11,11 @@ use Rattle.literals.specs.declared.Usage.TheVariants.{Positive, Negative, Add, D
 use Rattle.literals.specs.declared.Role.{Role}
 use Rattle.literals.specs.Domain.{same_variable, same_literal, is_every, usage_number, role_of, same_time, is_counted, Literal, Action, Domain}
 use Rattle.literals.specs.Decode.{max_literals, argument_of, label_of, repeats}
-use Rattle.literals.specs.Held.{row_of, literal_row, pad, rows_meet, row_in, components_in, arity_in, component_row_in, TemplateOf}
+use Rattle.literals.specs.Held.{row_of, literal_row, pad, rows_meet, row_in, clears_in, components_in, arity_in, component_row_in, TemplateOf}
 use Rattle.literals.specs.declared.Moment.{Moment}
 use Rattle.literals.specs.declared.Moment.TheVariants.{Start, End}
+use Rattle.classes.specs.declared.Count.{Count}
+use Rattle.classes.specs.declared.Count.TheVariants.{Zero, One, More}
 use Rattle.classes.specs.declared.Sole.{Sole}
 use Rattle.classes.specs.declared.number.NumberedLiteral.{NumberedLiteral}
 use Rattle.literals.specs.Matching.{own, asked}
@@ -42,13 +44,18 @@ tuple_row x = row_of (map (λ (v : Variable). v.0) x)
 
 -- ---- class numbers, by the bytes of rows
 
+-- the byte of a class number in a memory, FF for none
+abbrev pub class_byte : Option ℕ → ℕ
+class_byte None = 255
+class_byte (Some c) = c
+
 -- the class number of a literal whose key tuple has this word, or none, and how many classes there then are: `words` has those of `count`
 -- classes
 unfoldable pub numbered_by : List ℕ → ℕ → List ℕ → NumberedLiteral
-numbered_by [] count words = record { class = 255; count = count }
+numbered_by [] count words = record { class = None; count = count }
 numbered_by (w ∷ ws) count words =
     let c = position (eqb w) (take count words) in
-    record { class = c; count = cond (eqb c count) (count + 1) count }
+    record { class = Some c; count = cond (eqb c count) (count + 1) count }
 
 -- the words of the classes then
 unfoldable pub words_after : List ℕ → ℕ → List ℕ → List ℕ
@@ -76,6 +83,11 @@ timed wide End AtEnd = true
 -- 1 to 4 for a true condition, false condition, add or delete of the moment, 0 for none
 abbrev pub usage_at : Bool → Moment → Role → ℕ
 usage_at wide m r = cond (counts wide m r.usage r) (suc (usage_number r.usage)) 0
+
+-- the byte of a usage in a memory, 0 for none
+abbrev pub usage_mark : Option Usage → ℕ
+usage_mark None = 0
+usage_mark (Some u) = suc (usage_number u)
 
 -- the same, 0 where an earlier literal of the same usage at that moment has the same atom: "a literal in both counting once"
 abbrev pub usage_once : Bool → Moment → List Literal → Literal → ℕ
@@ -107,6 +119,10 @@ no_repeats a = pairwise (λ l m. not (repeats l m)) a.lits
 unfoldable pub uncovered_at : Domain → Action → List Variable → Moment → ℕ
 unfolding excluding
 uncovered_at D a x m = position (λ c. not (covered (excluding D a x m) c)) D.template
+
+-- a place below n, none where it is not
+abbrev pub place_below : ℕ → ℕ → Option ℕ
+place_below n c = cond (ltb c n) (Some c) None
 
 -- ---- the same by index: of rows of 8 bytes, class numbers and usages
 
@@ -205,6 +221,12 @@ unfoldable pub has_counted : List ℕ → ℕ → Bool
 unfolding component_row_in arity_in
 has_counted head c = any (counted_at head c) (below (arity_in head (get_or (component_row_in head c) 0 0)))
 
+-- the same, as it is looked for: where no literal has FF, a component with a counted place is covered by none
+unfoldable pub looked_covered : List ℕ → List ℕ → List ℕ → List ℕ → ℕ → ℕ → Bool
+unfolding has_counted covered_at
+looked_covered head rows numbers usages class c =
+    (clears_in head || not (has_counted head c)) && covered_at head rows numbers usages class c
+
 -- the first component that it does not cover, or their number
 unfoldable pub lacking_at : List ℕ → List ℕ → List ℕ → List ℕ → ℕ → ℕ
 unfolding components_in covered_at
@@ -216,6 +238,10 @@ unfolding role_of
 lasts_at rows numbers class j = eqb (get_or numbers j 0) class && same_time OverAll (role_of (get_or rows (8 * j) 0)).time
 
 -- ---- which literals pass a test: 0 for none, k + 1 for the literal k alone, 255 for more
+
+-- what such a byte says
+abbrev pub count_of : ℕ → Count
+count_of n = cond (eqb n 0) Zero (cond (eqb n 255) More (One (n - 1)))
 
 -- with the literal j, which passes or does not
 abbrev pub sole_more : Bool → ℕ → ℕ → ℕ
@@ -234,7 +260,8 @@ sole_at numbers usages class usage = sole_by (is_at numbers usages class usage) 
 
 -- the true conditions and the adds of a class
 abbrev pub sole_of : List ℕ → List ℕ → ℕ → Sole
-sole_of numbers usages class = record { conditions = sole_at numbers usages class 1; adds = sole_at numbers usages class 3 }
+sole_of numbers usages class =
+    record { conditions = count_of (sole_at numbers usages class 1); adds = count_of (sole_at numbers usages class 3) }
 
 -- ---- the same of all classes, in sections of a byte for each: the true conditions and the adds at the start, the same two at the end,
 -- and the true conditions that are asked at the end
@@ -257,7 +284,10 @@ SolesOf rows numbers soles =
 
 -- the true conditions and the adds of a class, by the section of its true conditions
 abbrev pub sole_in : List ℕ → ℕ → ℕ → Sole
-sole_in soles s class = record { conditions = get_or soles (max_literals * s + class) 0; adds = get_or soles (max_literals * (s + 1) + class) 0 }
+sole_in soles s class = record {
+  conditions = count_of (get_or soles (max_literals * s + class) 0);
+  adds = count_of (get_or soles (max_literals * (s + 1) + class) 0);
+}
 
 -- the first section that counts the literals of a role, or 5: a true condition at the end is asked besides
 abbrev pub section_by : Time → Usage → ℕ
@@ -276,6 +306,11 @@ section_by AtEnd Delete = 5
 
 abbrev pub section_of : Role → ℕ
 section_of r = section_by r.time r.usage
+
+-- 5 for none
+abbrev pub section_number : Option ℕ → ℕ
+section_number None = 5
+section_number (Some s) = s
 
 -- which literal of a class is asked as a true condition at a moment: 255 says that it is unreachable there
 unfoldable pub reach_at : Domain → Action → Moment → ℕ → ℕ

@@ -1,28 +1,34 @@
 -- Memories that are filled row by row, 8 bytes a row: laws of the functions that keep, join and put rows. Assumes nothing.
 use mathlib.Core.Path.{◌≡◌, refl, sym, ap, ap₂, ◌∙◌, subst}
-use mathlib.Core.Bool.{Bool, true, false, not, cond}
+use mathlib.Core.Bool.{Bool, true, false, ◌||◌, not, cond}
 use mathlib.Core.List.Memᴰ
 use mathlib.Core.List.{List, [], ◌∷◌, ◌++◌, map, flat_map, append-nil}
 use Prim.Native.Nat.{ℕ, zero, suc, ◌+◌, ◌-◌, ◌*◌, ◌≤◌, ◌<◌}
+use native.Mathlib.Nat.{zero-add}
 use native.Mathlib.Omega.{arith}
 use lib.Dec.{eqb, ltb}
 use lib.ListN.{length, take, drop, length-append, length-drop, take-append-drop}
 use lib.Seq.{take_all, take-add, take-take, take-append-le, take-append-add, take_at, drop_at, drop-drop, drop-append-add, length-take-le}
 use lib.Seq.{paste}
 use borrow.Author.Tests.{lt-ltb, le-ltb, ltb-true, ltb-false}
-use Rattle.records.specs.Lists.{In, any, keep_if, filter_by, same_list, dedup}
+use Rattle.std.specs.Prelude.{Option, Some, None, IfSome, unwrap_or}
+use Rattle.std.specs.Bool.{MatchBool}
+use Rattle.std.specs.List.{HoldsAt, AllWithin}
+use Rattle.std.proofs.lemmas.List.FromFn.{get_or-range_with_len, length-range_with_len}
+use Rattle.records.specs.Lists.{In, any, keep_if, filter_by, same_list, dedup, below}
 use Rattle.records.specs.Memory.{over}
-use Rattle.records.proofs.Lists.{in_snoc, filter_append, filter_in, filter_few, dedup_in, flat_map_append, flat_map_snoc}
+use Rattle.records.proofs.Lists.{off, clash, in_any, any_in, in_snoc, any_append, filter_append, filter_in, filter_few, dedup_in, flat_map_append, flat_map_snoc}
 use Rattle.records.proofs.Memory.{length_over, over_paste}
 use Rattle.literals.specs.Held.{rows_in}
-use Rattle.literals.proofs.Rows.{length_part, rows_snoc, rows_whole}
+use Rattle.literals.proofs.Indices.{below_snoc, below_in, below_less}
+use Rattle.literals.proofs.Rows.{length_part, rows_last, rows_snoc, rows_whole}
 use Rattle.literals.proofs.Tables.{length_flat, rows_flat}
 use Rattle.literals.proofs.KeyRows.{length_rows}
 use Rattle.run_semantics.specs.RunFile.{max_facts}
 use Rattle.run_semantics.specs.Play.{work_bytes}
 use Rattle.store.specs.Held.{has_row}
 use Rattle.events.specs.Held.{is_pattern, grounded_bytes}
-use Rattle.effects.specs.Held.{scratch_bytes, effects_in, literals_in, flat, join_row, join_rows, at_most, any_meets, is_struck, stays}
+use Rattle.effects.specs.Held.{scratch_bytes, effects_in, literals_in, flat, join_row, join_rows, at_most, any_meets, is_struck, stays, count_of}
 use Rattle.effects.specs.Held.{kept_of}
 use Rattle.effects.proofs.Joins.{joined_rows, join_snoc, join_append}
 
@@ -42,6 +48,30 @@ rows_rest (suc n) (suc i) t h =
     ap {B = List (List ℕ)} (λ l. take 8 t ∷ l)
     (rows_rest n i (drop 8 t) (omega arith)
     ∙ ap₂ (λ (k : ℕ) (r : List ℕ). rows_in i (drop 8 t) ++ rows_in k r) f (drop-drop (8 * i) 8 t ∙ ap (λ (k : ℕ). drop k t) e))
+
+-- a test of the numbers below a bound, as it is told of each
+pub any_told : (p : ℕ → Bool) (n : ℕ) (r : Bool)
+    → MatchBool r ((k : ℕ) × (k < length (below n)) × HoldsAt (λ j. p j ≡ true) (below n) k) (AllWithin (λ j. p j ≡ false) (below n) 0 (length (below n)))
+    → r ≡ any p (below n)
+any_told p n true h =
+    let l : h.0 < n = omega (arith, length-range_with_len 0 n, h.1) in
+    sym (in_any p (below_in n l) (ap p (sym (get_or-range_with_len 0 n h.0 0 l ∙ zero-add h.0)) ∙ h.2 0))
+any_told p n false h =
+    sym (off (any p (below n)) (λ t.
+    let m = any_in p (below n) t in
+    let l = below_less n m.1 in
+    let e = length-range_with_len 0 n in
+    clash m.2 (ap p (sym (get_or-range_with_len 0 n m.0 0 l ∙ zero-add m.0)) ∙ h m.0 0 (omega arith) (omega arith))))
+
+-- a test of the first rows, by their numbers
+pub any_rows : (p : List ℕ → Bool) (n : ℕ) (t : List ℕ) → any (λ j. p (take 8 (drop (8 * j) t))) (below n) ≡ any p (rows_in n t)
+any_rows p zero t = refl
+any_rows p (suc n) t =
+    ap (any (λ j. p (take 8 (drop (8 * j) t)))) (below_snoc n)
+    ∙ any_append (λ j. p (take 8 (drop (8 * j) t))) (below n) (n ∷ [])
+    ∙ ap (λ (b : Bool). b || any p (take 8 (drop (8 * n) t) ∷ [])) (any_rows p n t)
+    ∙ sym (any_append p (rows_in n t) (take 8 (drop (8 * n) t) ∷ []))
+    ∙ ap (any p) (sym (rows_last n t))
 
 pub flat_rows : (n : ℕ) (t : List ℕ) → flat (rows_in n t) ≡ take (8 * n) t
 unfolding flat_map
@@ -292,6 +322,18 @@ most_more r n e h = go (ltb 1024 n) refl e
     go : (b : Bool) → ltb 1024 n ≡ b → r ≡ cond b 1025 n → (1024 < n) × (r ≡ 1025)
     go true t f = (ltb-true 1024 n t, f)
     go false t f = let k = ltb-false 1024 n t in absurd (omega arith)
+
+-- a count that is told fits
+pub told_few : (n : ℕ) (r : Option ℕ) → n ≤ 1024 → IfSome r (λ count. (n ≤ count) × (count ≤ 1024)) → (n ≤ count_of r) × (count_of r ≤ 1025)
+told_few n None g h = (omega arith, omega arith)
+told_few n (Some count) g h = (h.0, omega arith)
+
+pub told_or : (r : Option ℕ) → unwrap_or r 1025 ≡ count_of r
+told_or None = refl
+told_or (Some n) = refl
+
+pub told_is : (k n : ℕ) (r : Option ℕ) → r ≡ Some n → IfSome r (λ count. (k ≤ count) × (count ≤ 1024)) → (k ≤ n) × (n ≤ 1024)
+told_is k n r e h = subst (λ r. IfSome r (λ count. (k ≤ count) × (count ≤ 1024))) e h
 
 module _ (n : ℕ) (out : List ℕ) (g : n ≤ 1024) (h : 8192 ≤ length out) {row at : List ℕ} (e : row ≡ at) where
   joined_there : has_row row (rows_in n out) ≡ true → join_row (rows_in n out) at ≡ rows_in n out

@@ -1,24 +1,23 @@
 -- Rows that are kept, a run of them at a time: those between two that are struck. Assumes nothing.
 use mathlib.Core.Path.{◌≡◌, refl, sym, ap, ap₂, ◌∙◌, subst}
 use mathlib.Core.Bool.{true, false}
-use mathlib.Core.Logic.{◌⊎◌, inl, inr}
 use mathlib.Core.List.{List, [], ◌∷◌, ◌++◌, append-nil, append_assoc}
 use Prim.Native.Nat.{ℕ, zero, suc, ◌+◌, ◌-◌, ◌*◌, ◌≤◌, ◌<◌}
 use native.Mathlib.Omega.{arith}
-use lib.Dec.{eqb, ltb}
+use lib.Dec.{eqb}
 use lib.ListN.{length, get_or, take, drop, length-drop}
 use lib.Seq.{drop-drop, paste}
-use borrow.Author.Tests.{ltb-true, ltb-false}
+use Rattle.std.specs.Prelude.{Option, Some, None, IfSome, MatchOption}
 use Rattle.records.specs.Lists.{In, any, same_list}
 use Rattle.records.specs.Memory.{over}
-use Rattle.records.proofs.Lists.{bool_cases, get_d_in, count_filter, count_not, filter_agree, flat_map_append}
+use Rattle.records.proofs.Lists.{get_d_in, count_filter, count_not, filter_agree, flat_map_append}
 use Rattle.records.proofs.Memory.{over_paste}
 use Rattle.literals.specs.Held.{rows_in}
 use Rattle.literals.proofs.Rows.{rows_last, rows_whole}
 use Rattle.literals.proofs.KeyRows.{length_rows, rows_at}
 use Rattle.store.specs.Held.{has_row, note_at, Indexed}
 use Rattle.events.specs.Held.{is_pattern}
-use Rattle.effects.specs.Held.{Once, is_struck, struck_of, FirstStruck, flat, stays, kept_of}
+use Rattle.effects.specs.Held.{Once, is_struck, struck_of, FirstStruck, flat, stays, kept_of, place_or}
 use Rattle.effects.proofs.Joins.{none_left, row_sound, row_self}
 use Rattle.effects.proofs.FilledRows.{rows_rest, flat_rows, length_whole, rows_own, Filled, filled_length, filled_more}
 use Rattle.effects.proofs.FilledRows.{struck_by, kept_in, left_count, left_rows, kept_next}
@@ -26,14 +25,14 @@ use Rattle.effects.proofs.IndexedRows.{left_indexed, Keeping, keeping_more}
 
 -- ---- the first struck row
 
--- one row more that is not struck
-pub others_more : (struck : List (List ℕ)) (work : List ℕ) (from i : ℕ) → ((j : ℕ) → from ≤ j → j < i → is_struck struck (take 8 (drop (8 * j) work)) ≡ false)
-    → is_struck struck (take 8 (drop (8 * i) work)) ≡ false → (j : ℕ) → from ≤ j → j < i + 1 → is_struck struck (take 8 (drop (8 * j) work)) ≡ false
-others_more struck work from i h e j a b = go (bool_cases (ltb j i))
-  where
-    go : (ltb j i ≡ true) ⊎ (ltb j i ≡ false) → is_struck struck (take 8 (drop (8 * j) work)) ≡ false
-    go (inl l) = h j a (ltb-true j i l)
-    go (inr l) = let g = ltb-false j i l in let q : j ≡ i = omega arith in ap (λ (k : ℕ). is_struck struck (take 8 (drop (8 * k) work))) q ∙ e
+-- as it is looked for
+pub first_told : (struck : List (List ℕ)) (work : List ℕ) (n from : ℕ) → from ≤ n → (r : Option ℕ)
+    → MatchOption r ((j : ℕ) → from ≤ j → j < n → is_struck struck (take 8 (drop (8 * j) work)) ≡ false)
+    (λ i. (from ≤ i) × (i < n) × (is_struck struck (take 8 (drop (8 * i) work)) ≡ true)
+    × ((j : ℕ) → from ≤ j → j < i → is_struck struck (take 8 (drop (8 * j) work)) ≡ false))
+    → IfSome r (λ i. i < n) × FirstStruck struck work n from (place_or n r)
+first_told struck work n from b None h = (tt, record { behind = b; within = omega arith; others = h; found = λ l. absurd (omega arith) })
+first_told struck work n from b (Some i) h = let l = h.1 in (l, record { behind = h.0; within = omega arith; others = h.3; found = λ l. h.2 })
 
 -- ---- all that are struck are gone
 

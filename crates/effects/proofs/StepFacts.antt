@@ -7,6 +7,7 @@ use native.Mathlib.Omega.{arith}
 use lib.Dec.{eqb}
 use lib.ListN.{length, take, drop, replicate, length-map}
 use lib.Seq.{take_all, take_at}
+use Rattle.std.specs.Prelude.{Option}
 use Rattle.records.specs.Lists.{filter_by, same_list, elem, distinct, dedup}
 use Rattle.records.specs.Memory.{over}
 use Rattle.records.proofs.Lists.{filter_in, filter_agree, dedup_in}
@@ -17,7 +18,7 @@ use Rattle.literals.specs.Held.{rows_in}
 use Rattle.verdict.specs.Judged.{object_numbers, fact_bytes}
 use Rattle.verdict.specs.Machine.{Event, step_facts, facts_after}
 use Rattle.store.specs.Held.{Sized, Indexed, has_row}
-use Rattle.effects.specs.Held.{join_rows, Once, at_most, flat, HoldsJoined, HoldsAfter, stays, kept_of}
+use Rattle.effects.specs.Held.{join_rows, Once, at_most, flat, HoldsJoined, HoldsAfter, stays, kept_of, count_of}
 use Rattle.events.proofs.FactRows.{same_row}
 use Rattle.effects.proofs.Joins.{outside_map, dedup_map, distinct_map, joined_rows}
 use Rattle.literals.proofs.Indices.{filter_map}
@@ -89,7 +90,7 @@ module _ {D : Domain} {objs : List Object} {fs : List Fact} {es : List Event} {h
 
 -- the rows that are struck and those that are added, the work memory, the scratch memory before what is kept, behind that and
 -- when all has joined, and the index
-pub record Done (head struck work adds : List ℕ) (m n k : ℕ) (out₀ out₁ out₂ index₀ index₁ index₂ : List ℕ) (kept facts : ℕ) : Type 0 where
+pub record Done (head struck work adds : List ℕ) (m n k : ℕ) (out₀ out₁ out₂ index₀ index₁ index₂ : List ℕ) (kept : ℕ) (facts : Option ℕ) : Type 0 where
   pub small : n ≤ 1024
   pub within : 8 * n ≤ length work
   pub adds_within : 8 * k ≤ length adds
@@ -97,11 +98,10 @@ pub record Done (head struck work adds : List ℕ) (m n k : ℕ) (out₀ out₁ 
   pub kept_count : kept ≡ length (kept_of (rows_in m struck) work n)
   pub kept_bytes : out₁ ≡ over (flat (kept_of (rows_in m struck) work n)) out₀
   pub kept_indexed : Indexed head index₀ (rows_in n work) → Indexed head index₁ (kept_of (rows_in m struck) work n)
-  pub joined_few : (kept ≤ facts) × (facts ≤ 1025)
   pub joined : Indexed head index₁ (rows_in kept out₁) → Sized head (rows_in k adds)
-      → HoldsJoined head (join_rows (rows_in kept out₁) (rows_in k adds)) out₁ facts out₂ index₂
+      → HoldsJoined head (join_rows (rows_in kept out₁) (rows_in k adds)) out₁ (count_of facts) out₂ index₂
 
-module _ {head struck work adds : List ℕ} {m n k : ℕ} {out₀ out₁ out₂ index₀ index₁ index₂ : List ℕ} {kept facts : ℕ}
+module _ {head struck work adds : List ℕ} {m n k : ℕ} {out₀ out₁ out₂ index₀ index₁ index₂ : List ℕ} {kept : ℕ} {facts : Option ℕ}
     (X : Done head struck work adds m n k out₀ out₁ out₂ index₀ index₁ index₂ kept facts) where
   abbrev kept_rows : List (List ℕ)
   kept_rows = kept_of (rows_in m struck) work n
@@ -127,11 +127,11 @@ module _ {head struck work adds : List ℕ} {m n k : ℕ} {out₀ out₁ out₂ 
   new_whole row i = rows_whole k adds X.adds_within row (dedup_in (same_list eqb) (rows_in k adds)
       (filter_in (λ (row : List ℕ). not (has_row row kept_rows)) (dedup (same_list eqb) (rows_in k adds)) i).0)
 
-  pub after_few : (kept ≤ n) × (kept ≤ facts) × (facts ≤ 1025)
+  pub after_few : kept ≤ n
   after_few =
       let q = kept_few (rows_in m struck) work n in
       let c = X.kept_count in
-      (omega arith, X.joined_few.0, X.joined_few.1)
+      omega arith
 
   module _ {D : Domain} {objs : List Object} {fs : List Fact} {es : List Event} (E : EffectsOf D objs fs es head (rows_in m struck) (rows_in k adds))
       (u : rows_in n work ≡ map fact_row fs) where
@@ -157,10 +157,10 @@ module _ {head struck work adds : List ℕ} {m n k : ℕ} {out₀ out₁ out₂ 
       kept_held : Indexed head index₁ (rows_in kept out₁)
       kept_held = subst (Indexed head index₁) (sym kept_still) (X.kept_indexed (subst (Indexed head index₀) (sym u) I))
 
-      H : HoldsJoined head (join_rows (rows_in kept out₁) (rows_in k adds)) out₁ facts out₂ index₂
+      H : HoldsJoined head (join_rows (rows_in kept out₁) (rows_in k adds)) out₁ (count_of facts) out₂ index₂
       H = X.joined kept_held E.sized
 
-      after_count : facts ≡ at_most 1024 (length after)
+      after_count : count_of facts ≡ at_most 1024 (length after)
       after_count = H.count ∙ ap (at_most 1024) (ap length after_rows ∙ length-map after fact_row)
 
       after_held : length after ≤ 1024 → take (8 * length after) out₂ ≡ fact_bytes after
@@ -174,7 +174,7 @@ module _ {head struck work adds : List ℕ} {m n k : ℕ} {out₀ out₁ out₂ 
 
       after_indexed : length after ≤ 1024 → Indexed head index₂ (map fact_row after)
       after_indexed y =
-          let c : facts ≡ length after = after_count ∙ sym (most_inside (length after) y) in
+          let c : count_of facts ≡ length after = after_count ∙ sym (most_inside (length after) y) in
           subst (Indexed head index₂) after_rows (H.indexed (omega arith))
 
       pub holds_after : HoldsAfter D objs fs es head (record { kept = kept; facts = facts }) out₂ index₂

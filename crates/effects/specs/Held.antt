@@ -1,5 +1,5 @@
 -- What a step adds and strikes, by its ground literals. Assumes nothing.
-use Rattle.std.specs.Prelude.{◌≡◌, Bool, true, false, ◌&&◌, not, cond, ℕ, suc, ◌+◌, ◌*◌, ◌≤◌, ◌<◌, eqb, ltb, length, get_or, take, drop}
+use Rattle.std.specs.Prelude.{◌≡◌, Bool, true, false, ◌&&◌, not, cond, ℕ, suc, ◌+◌, ◌*◌, ◌≤◌, ◌<◌, eqb, ltb, length, get_or, take, drop, Option, Some, None}
 use mathlib.Core.List.{List, [], ◌∷◌, ◌++◌, map, flat_map}
 use Rattle.records.specs.Lists.{In, any, filter_by, count_by, same_list, elem, distinct}
 use Rattle.records.specs.Memory.{over}
@@ -47,6 +47,16 @@ join_rows rows (row ∷ more) = join_rows (join_row rows row) more
 -- a count, or one more than the limit where it is above it
 abbrev pub at_most : ℕ → ℕ → ℕ
 at_most limit n = cond (ltb limit n) (suc limit) n
+
+-- what is told of a count: itself, or one more than the limit of facts where it was told that there is no room
+abbrev pub count_of : Option ℕ → ℕ
+count_of None = suc max_facts
+count_of (Some n) = n
+
+-- what is told of a place: itself, or the end where it was told that there is none
+abbrev pub place_or : ℕ → Option ℕ → ℕ
+place_or end None = end
+place_or end (Some i) = i
 
 -- the bytes of rows, one row behind the other
 abbrev pub flat : List (List ℕ) → List ℕ
@@ -104,7 +114,7 @@ is_apart marks first = not (eqb first 255) && (eqb (get_or marks 255 0) 0 && eqb
 pub record HoldsAfter (D : Domain) (objs : List Object) (fs : List Fact) (es : List Event) (head : List ℕ) (r : After) (out index : List ℕ)
     : Type 0 where
   pub kept : r.kept ≡ length (filter_by (λ (f : Fact). not (elem same_fact f (step_facts D objs es Delete))) fs)
-  pub facts : r.facts ≡ at_most max_facts (length (facts_after D objs fs es))
+  pub facts : count_of r.facts ≡ at_most max_facts (length (facts_after D objs fs es))
   pub held : length (facts_after D objs fs es) ≤ max_facts
       → take (8 * length (facts_after D objs fs es)) out ≡ fact_bytes (facts_after D objs fs es)
   pub indexed : length (facts_after D objs fs es) ≤ max_facts → Indexed head index (map fact_row (facts_after D objs fs es))

@@ -1,7 +1,7 @@
 // The facts after a step: what it strikes goes out, then what it adds joins, each fact once.
 #![tactic(auto)]
 
-ghost use Rattle.std.specs.Prelude.{◌≡◌, List, [], ◌∷◌, ◌++◌, map, ◌+◌, ◌*◌, ◌<◌, ◌≤◌, length, get_or, take, drop};
+ghost use Rattle.std.specs.Prelude.{◌≡◌, List, [], ◌∷◌, ◌++◌, map, ◌+◌, ◌*◌, ◌<◌, ◌≤◌, length, get_or, take, drop, IfSome};
 ghost use Rattle.records.specs.Memory.{over};
 ghost use Rattle.records.specs.Lists.{any};
 ghost use Rattle.literals.specs.declared.Object.{Object};
@@ -14,12 +14,13 @@ ghost use Rattle.events.specs.Held.{OverObjects, is_pattern, max_ground, ground_
 ghost use Rattle.store.specs.Held.{note_at, Sized, Indexed, SizedRow};
 ghost use Rattle.effects.specs.Held.{scratch_bytes, effects_in, literals_in, rows_of_usage, flat, HoldsAfter, Once, any_meets, is_struck};
 ghost use Rattle.effects.specs.Held.{struck_of, FirstStruck, Marked, is_apart, kept_of, join_row, join_rows, HoldsJoined};
+ghost use Rattle.effects.specs.Held.{place_or, count_of};
 
 use events::facts::{has_pattern, patterns_meet};
-use events::grounding::{GROUNDED, MAX_GROUND, USAGES};
+use events::grounding::{ADD, DELETE, GROUNDED, MAX_GROUND, USAGES};
 use literals::head::Head;
 use literals::limits::MAX_FACTS;
-use records::bytes::{put_bytes, wide};
+use records::bytes::put_bytes;
 use store::index::{FactIndex, enter, is_held, leave};
 use store::rows::{has_row, row_at};
 
@@ -37,9 +38,7 @@ fn append_row(out: &mut [u8], n: usize, row: [u8; 8])
     requires { 8 * n + 8 ≤ length out.old }
     ensures { out.new ≡ over (flat (rows_in n out.old ++ (row ∷ []))) out.old }
 {
-    for i in 0..8 {
-        out[8 * n + i] = row[i];
-    }
+    put_bytes(out, 8 * n, &row);
 }
 
 // Marks the third bytes of the first m rows.
@@ -49,8 +48,7 @@ fn put_marks(marks: &mut [u8], rows: &[u8], m: usize)
     ensures { Marked marks.new (rows_in m rows.now) }
 {
     for j in 0..m {
-        let first = wide(rows[8 * j + 2]);
-        marks[first] = 1;
+        marks[usize::from(rows[8 * j + 2])] = 1;
     }
 }
 
@@ -60,27 +58,14 @@ fn any_row_meets(rows: &[u8], m: usize, work: &[u8], at: usize) -> bool
     requires row { at + 8 ≤ length work.now }
     ensures { result ≡ any_meets (rows_in m rows.now) (take 8 (drop at work.now)) }
 {
-    let mut j = 0;
-    while j < m {
-        if patterns_meet(rows, 8 * j, work, at) {
-            return true;
-        }
-        j += 1;
-    }
-    false
+    (0..m).any(|j| patterns_meet(rows, 8 * j, work, at))
 }
 
 // Whether a row with this first argument meets none of the rows whose first arguments are marked: it is no mark, and neither is FF.
 fn is_apart(marks: &FirstMarks, first: u8) -> bool
     ensures { result ≡ is_apart marks.now first }
 {
-    if first == 255 {
-        return false;
-    }
-    if marks[255] != 0 {
-        return false;
-    }
-    marks[wide(first)] == 0
+    first != 255 && marks[255] == 0 && marks[usize::from(first)] == 0
 }
 
 // Whether one of the first m rows, patterns among them, meets the row at an offset of the work memory. Most are told by their third byte,
@@ -91,10 +76,7 @@ fn is_met(work: &[u8], at: usize, marks: &FirstMarks, struck: &[u8], m: usize) -
     requires marked { Marked marks.now (rows_in m struck.now) }
     ensures { result ≡ any_meets (rows_in m struck.now) (take 8 (drop at work.now)) }
 {
-    if is_apart(marks, work[at + 2]) {
-        return false;
-    }
-    any_row_meets(struck, m, work, at)
+    !is_apart(marks, work[at + 2]) && any_row_meets(struck, m, work, at)
 }
 
 // Whether the row at an offset of the work memory is struck: where there are patterns, by rows that meet; else by equal ones. Most are
@@ -116,15 +98,11 @@ fn is_struck(
     if patterns {
         return is_met(work, at, marks, struck, m);
     }
-    let first = wide(work[at + 2]);
-    if marks[first] == 0 {
-        return false;
-    }
-    has_row(struck, m, row_at(work, at))
+    marks[usize::from(work[at + 2])] != 0 && has_row(struck, m, row_at(work, at))
 }
 
-// The first struck row of the work memory from a row on, of n; n where there is none. No row occurs twice, so there is none once `gone`
-// rows, as many as are struck, were found, where none of these is a pattern, which strikes many.
+// The first struck row of the work memory from a row on, of n. No row occurs twice, so there is none once `gone` rows, as many as are
+// struck, were found, where none of these is a pattern, which strikes many.
 fn struck_from(
     work: &[u8],
     n: usize,
@@ -134,7 +112,7 @@ fn struck_from(
     struck: &[u8],
     m: usize,
     patterns: bool,
-) -> usize
+) -> Option<usize>
     requires few { n ≤ max_facts }
     requires rows { 8 * n ≤ length work.now }
     requires from { from ≤ n }
@@ -143,21 +121,13 @@ fn struck_from(
     requires once { Once (rows_in n work.now) }
     requires gone { gone ≡ struck_of (rows_in m struck.now) work.now from }
     requires told { patterns ≡ any is_pattern (rows_in m struck.now) }
-    ensures { FirstStruck (rows_in m struck.now) work.now n from result }
+    ensures inside { IfSome result (λ i. i < n) }
+    ensures first { FirstStruck (rows_in m struck.now) work.now n from (place_or n result) }
 {
-    if !patterns {
-        if m <= gone {
-            return n;
-        }
+    if !patterns && m <= gone {
+        return None;
     }
-    let mut i = from;
-    while i < n {
-        if is_struck(work, 8 * i, marks, struck, m, patterns) {
-            return i;
-        }
-        i += 1;
-    }
-    n
+    (from..n).find(|&i| is_struck(work, 8 * i, marks, struck, m, patterns))
 }
 
 // Copies the rows of the work memory that are not struck, in order, to the front of the scratch memory; answers how many they are. The
@@ -189,57 +159,59 @@ fn keep_rows(
     let mut k = 0;
     let mut i = 0;
     // Most rows stay, so all rows between two struck ones are copied at once.
-    loop {
-        let next = struck_from(
-            work,
-            n,
-            i,
-            i - k,
-            &marks,
-            &scratch[EFFECTS..SCRATCH],
-            m,
-            patterns,
-        );
-        let from = 8 * i;
-        let to = 8 * next;
-        put_bytes(scratch, 8 * k, &work[from..to]);
+    while let Some(next) = struck_from(
+        work,
+        n,
+        i,
+        i - k,
+        &marks,
+        &scratch[EFFECTS..SCRATCH],
+        m,
+        patterns,
+    ) {
+        put_bytes(scratch, 8 * k, &work[8 * i..8 * next]);
         k += next - i;
-        if n <= next {
-            return k;
-        }
-        leave(index, head, work, to);
+        leave(index, head, work, 8 * next);
         i = next + 1;
     }
+    put_bytes(scratch, 8 * k, &work[8 * i..8 * n]);
+    k + (n - i)
 }
 
 // Appends the row at an offset of what is added to the first n rows of the scratch memory, and to the index, unless it is there already;
-// answers the new count, or 1,025 where there is no room.
-fn join_row(head: &Head, scratch: &mut [u8], at: usize, n: usize, index: &mut FactIndex) -> usize
+// answers the new count, or None where there is no room.
+fn join_row(
+    head: &Head,
+    scratch: &mut [u8],
+    at: usize,
+    n: usize,
+    index: &mut FactIndex,
+) -> Option<usize>
     requires row { at + 8 ≤ length scratch.old }
     requires few { n ≤ max_facts }
     requires scratch { length scratch.old ≡ scratch_bytes }
-    ensures few { (n ≤ result) × (result ≤ max_facts + 1) }
+    ensures few { IfSome result (λ count. (n ≤ count) × (count ≤ max_facts)) }
     ensures joined { Indexed head.now index.old (rows_in n scratch.old)
         → SizedRow head.now (take 8 (drop at scratch.old))
         → HoldsJoined head.now (join_row (rows_in n scratch.old) (take 8 (drop at scratch.old)))
-        scratch.old result scratch.new index.new }
+        scratch.old (count_of result) scratch.new index.new }
     ensures beside { get_or index.new note_at 0 ≡ get_or index.old note_at 0 }
     ensures others { effects_in scratch.new ≡ effects_in scratch.old }
 {
     let row = row_at(scratch, at);
     if is_held(index, scratch, n, row) {
-        return n;
+        return Some(n);
     }
     if MAX_FACTS <= n {
-        return MAX_FACTS + 1;
+        return None;
     }
     enter(index, head, scratch, at);
     append_row(scratch, n, row);
-    n + 1
+    Some(n + 1)
 }
 
 // Each of m rows of the effects from row `from` on, behind the first `count` rows of the scratch memory, where it is not there yet; the
-// count then, or 1,025 where there is no room.
+// count then, or None where there is no room.
 fn join_rows(
     head: &Head,
     scratch: &mut [u8],
@@ -247,26 +219,24 @@ fn join_rows(
     m: usize,
     count: usize,
     index: &mut FactIndex,
-) -> usize
+) -> Option<usize>
     requires few { from + m ≤ max_facts }
     requires count { count ≤ max_facts }
     requires scratch { length scratch.old ≡ scratch_bytes }
-    ensures few { (count ≤ result) × (result ≤ max_facts + 1) }
+    ensures few { IfSome result (λ n. (count ≤ n) × (n ≤ max_facts)) }
     ensures joined { Indexed head.now index.old (rows_in count scratch.old)
         → Sized head.now (rows_in m (drop (8 * from) (effects_in scratch.old)))
         → HoldsJoined head.now
         (join_rows (rows_in count scratch.old) (rows_in m (drop (8 * from) (effects_in scratch.old))))
-        scratch.old result scratch.new index.new }
+        scratch.old (count_of result) scratch.new index.new }
     ensures beside { get_or index.new note_at 0 ≡ get_or index.old note_at 0 }
 {
     let mut n = count;
+    // By their numbers: the rows that join and those that they join stand in one memory.
     for j in 0..m {
-        n = join_row(head, scratch, EFFECTS + 8 * (from + j), n, index);
-        if MAX_FACTS < n {
-            return n;
-        }
+        n = join_row(head, scratch, EFFECTS + 8 * (from + j), n, index)?;
     }
-    n
+    Some(n)
 }
 
 // Appends the row of the ground literal i to the first n rows of the effects, if it is of this usage; answers the new count.
@@ -288,7 +258,7 @@ fn put_effect(scratch: &mut [u8], n: usize, i: usize, usage: u8) -> usize
 }
 
 // Those of the first `total` ground literals that are of this usage, in order, behind the first `at` rows of the effects: what the step
-// adds (usage 3) or strikes (usage 4), or its true conditions (usage 1). The count then.
+// adds or strikes, or its true conditions. The count then.
 pub fn step_effects(scratch: &mut [u8], at: usize, total: usize, usage: u8) -> usize
     requires scratch { length scratch.old ≡ scratch_bytes }
     requires total { total ≤ max_ground }
@@ -299,17 +269,18 @@ pub fn step_effects(scratch: &mut [u8], at: usize, total: usize, usage: u8) -> u
     ensures literals { literals_in scratch.new ≡ literals_in scratch.old }
 {
     let mut n = at;
+    // By their numbers: the literals and the effects stand in one memory.
     for i in 0..total {
         n = put_effect(scratch, n, i, usage);
     }
     n
 }
 
-// What a step leaves: how many of the facts before it are kept, and how many facts there are, 1,025 where they are too many.
+// What a step leaves: how many of the facts before it are kept, and how many facts there are, None where they are too many.
 #[derive(Clone, Copy)]
 pub struct After {
     pub kept: usize,
-    pub facts: usize,
+    pub facts: Option<usize>,
 }
 
 // The facts after the events of a step, in place of its ground literals at the front of the scratch memory: the first n rows of the work
@@ -327,7 +298,7 @@ pub fn facts_after(
     requires scratch { length scratch.old ≡ scratch_bytes }
     requires once { Once (rows_in n work.now) }
     requires total { total ≤ max_ground }
-    ensures few { (result.kept ≤ n) × (result.kept ≤ result.facts) × (result.facts ≤ max_facts + 1) }
+    ensures few { (result.kept ≤ n) × IfSome result.facts (λ count. (result.kept ≤ count) × (count ≤ max_facts)) }
     ensures after { (D : Domain) (objs : List Object) (es : List Event) (fs : List Fact)
         → OverObjects D objs fs (map (λ (e : Event). e.act) es)
         → Grounded D head.now es (literals_in scratch.old) total
@@ -335,8 +306,8 @@ pub fn facts_after(
         → HoldsAfter D objs fs es head.now result scratch.new index.new }
     ensures beside { get_or index.new note_at 0 ≡ get_or index.old note_at 0 }
 {
-    let m = step_effects(scratch, 0, total, 4);
-    let end = step_effects(scratch, m, total, 3);
+    let m = step_effects(scratch, 0, total, DELETE);
+    let end = step_effects(scratch, m, total, ADD);
     let kept = keep_rows(head, work, n, scratch, m, index);
     let facts = join_rows(head, scratch, m, end - m, kept, index);
     After { kept, facts }

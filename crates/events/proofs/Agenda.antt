@@ -1,10 +1,10 @@
 -- Sections of one memory: a section that is changed holds what was put there, and the others are as they were. Assumes nothing.
-use mathlib.Core.Path.{◌≡◌, sym, ap, ap₂, ◌∙◌}
-use mathlib.Core.List.{List, [], ◌∷◌, ◌++◌, flat_map, append_assoc}
-use Prim.Native.Nat.{ℕ, ◌+◌, ◌-◌, ◌*◌, ◌≤◌, ◌<◌}
+use mathlib.Core.Path.{◌≡◌, sym, ap, ◌∙◌}
+use mathlib.Core.List.{List, [], ◌∷◌, ◌++◌, flat_map}
+use Prim.Native.Nat.{ℕ, ◌+◌, ◌*◌, ◌≤◌, ◌<◌}
 use native.Mathlib.Omega.{arith}
-use lib.ListN.{length, take, drop, set, replicate, length-set, length-append, length-drop, length-replicate, take-append-drop}
-use lib.Seq.{take-append-le, take_at, drop_at, drop-append-le, drop-append-add, length-take-le, drop-drop}
+use lib.ListN.{length, take, drop, set, replicate, length-set, length-drop, length-replicate, take-append-drop}
+use lib.Seq.{take-append-le, take_at, drop_at, drop-append-le, length-take-le, drop-drop}
 use lib.Seq.{take-set-le, take-set-lt, drop-set-lt, drop-set-add, paste}
 use borrow.Rule.Slice.PartMut.{put_mid, post_of, same_len_mid}
 use Rattle.literals.specs.Domain.{Domain}
@@ -14,7 +14,6 @@ use Rattle.verdict.specs.Machine.{Event}
 use Rattle.run_semantics.specs.RunFile.{max_events}
 use Rattle.events.specs.Held.{agenda_bytes, moments_at, events_at, open_bytes, waiting_bytes, entries_in, moments_in}
 use Rattle.events.specs.Held.{event_rows_in, agenda_waiting, ground_row, waiting_of, EventsFit}
-use Rattle.events.proofs.GroundRows.{whole_copy}
 use Rattle.events.proofs.MoreWaiting.{waiting_more}
 
 -- ---- a section of k bytes at a, with others in its place
@@ -37,24 +36,13 @@ module _ (a k : ℕ) (xs ys : List ℕ) (room : a + k ≤ length xs) (sized : le
       ap (take n) (sym (drop-drop i a (put_mid a k xs ys)) ∙ ap (drop i) (drop_at (take a xs) (ys ++ post_of a k xs) a before_length))
       ∙ front_stays i n ys (post_of a k xs) (omega arith)
 
-  -- n bytes at i in front of it, and all behind it
+  -- n bytes at i in front of it
   pub before_stays : (i n : ℕ) → i + n ≤ a → take n (drop i (put_mid a k xs ys)) ≡ take n (drop i xs)
   before_stays i n h =
       let l = before_length in
       front_stays i n (take a xs) (ys ++ post_of a k xs) (omega arith)
       ∙ sym (front_stays i n (take a xs) (drop a xs) (omega arith))
       ∙ ap (λ (t : List ℕ). take n (drop i t)) (take-append-drop a xs)
-
-  pub behind_stays : (n : ℕ) → a + k ≤ n → drop n (put_mid a k xs ys) ≡ drop n xs
-  behind_stays n h =
-      let m : ℕ = n - (a + k) in
-      let l = before_length in
-      let f = length-append (take a xs) ys in
-      let e : n ≡ length (take a xs ++ ys) + m = omega arith in
-      let g : a + (k + m) ≡ n = omega arith in
-      ap₂ (λ (i : ℕ) (t : List ℕ). drop i t) e (sym (append_assoc (take a xs) ys (post_of a k xs)))
-      ∙ drop-append-add (take a xs ++ ys) (post_of a k xs) m
-      ∙ drop-drop m k (drop a xs) ∙ drop-drop (k + m) a xs ∙ ap (λ (i : ℕ). drop i xs) g
 
 -- the agenda's own
 pub section_length : (agenda : List ℕ) (a k : ℕ) → a + k ≤ length agenda → length (take k (drop a agenda)) ≡ k
@@ -116,7 +104,7 @@ module _ (agenda entries zeros : List ℕ) (l : length agenda ≡ agenda_bytes) 
   pub joined_length : length joined ≡ agenda_bytes
   joined_length = same_len_mid 0 open_bytes agenda entries sized ∙ l
 
-  module _ (cleared : zeros ≡ paste (take 288 (drop moments_at joined)) 0 (replicate 288 0) 288) where
+  module _ (cleared : zeros ≡ replicate (length (take 288 (drop moments_at joined))) 0) where
     abbrev after : List ℕ
     after = put_mid moments_at 288 joined zeros
 
@@ -124,11 +112,7 @@ module _ (agenda entries zeros : List ℕ) (l : length agenda ≡ agenda_bytes) 
     room_after = let e = joined_length in omega arith
 
     zeros_are : zeros ≡ replicate 288 0
-    zeros_are =
-        let r = length-replicate {A = ℕ} 288 0 in
-        whole_copy (take 288 (drop moments_at joined)) (replicate 288 0) zeros
-        (section_length joined moments_at 288 room_after ∙ sym r)
-        (cleared ∙ ap (paste (take 288 (drop moments_at joined)) 0 (replicate 288 0)) (sym r))
+    zeros_are = cleared ∙ ap (λ (n : ℕ). replicate {A = ℕ} n 0) (section_length joined moments_at 288 room_after)
 
     zeros_sized : length zeros ≡ 288
     zeros_sized = ap length zeros_are ∙ length-replicate {A = ℕ} 288 0

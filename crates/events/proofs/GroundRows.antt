@@ -1,51 +1,24 @@
 -- Laws of loops over rows of 17 bytes: finding one, taking one out, writing one behind them; and over the events that wait. Assumes nothing.
 use mathlib.Core.Path.{◌≡◌, refl, sym, ap, ap₂, ◌∙◌}
-use mathlib.Core.Bool.{Bool, true, false, ◌||◌, cond}
-use mathlib.Core.Logic.{◌⊎◌, inl, inr}
+use mathlib.Core.Bool.{Bool, true, false, cond}
 use mathlib.Core.List.{List, [], ◌∷◌, ◌++◌, append-nil, append_assoc}
-use Prim.Native.Nat.{ℕ, zero, suc, ◌+◌, ◌-◌, ◌*◌, ◌≤◌, ◌<◌}
+use Prim.Native.Nat.{ℕ, suc, ◌+◌, ◌-◌, ◌*◌, ◌≤◌, ◌<◌}
 use native.Mathlib.Nat.{sub-zero}
 use native.Mathlib.Omega.{arith}
 use lib.Dec.{eqb, ltb}
-use lib.ListN.{length, get_or, take, drop, replicate, length-drop, drop_of_length-le}
-use lib.Seq.{paste, length-paste, take-paste, take_all, get_or-drop, drop-drop}
-use borrow.Author.Tests.{ltb-true, ltb-false, lt-ltb, le-ltb, eq-eqb, ne_eqb}
-use Rattle.records.specs.Lists.{any, all, same_list, position}
-use Rattle.records.proofs.Lists.{bool_cases}
-use Rattle.literals.specs.Held.{actions_in, lasting_in}
-use Rattle.literals.proofs.Rows.{first_at_lem}
+use lib.ListN.{length, get_or, take, drop, replicate, length-append, length-drop, drop_of_length-le}
+use lib.Seq.{paste, take_all, take_at, length-take-le, get_or-drop, drop-drop}
+use borrow.Author.Tests.{ltb-true, ltb-false, eq-eqb, ne_eqb}
+use Rattle.records.specs.Lists.{same_list, position}
+use Rattle.std.specs.Prelude.{Option, Some, None}
 use Rattle.literals.proofs.KeyRows.{place_le, length_rows}
-use Rattle.events.specs.Held.{Open, grounds_in, EventRow, event_at, events_in, end_open, without_entry, close_entry, close_event}
-use Rattle.events.specs.Held.{close_events, join_entry, opens_by, join_event, join_events, OpenAfter}
-use Rattle.store.specs.Held.{has_row}
+use borrow.Rule.Slice.PartMut.{put_mid, mid_of, post_of, same_len_mid}
+use Rattle.events.specs.Held.{Open, grounds_in, EventRow, event_at, events_in, entry_place, without_entry, close_entry, close_event}
+use Rattle.events.specs.Held.{close_events, join_entry, opens_by, join_event, join_events, OpenAfter, count_after}
 
 -- a part of 17 bytes
 pub part_ground : (t : List ℕ) (at : ℕ) → take (at + 17 - at) (drop at t) ≡ take 17 (drop at t)
 part_ground t at = let e : at + 17 - at ≡ 17 = omega arith in ap (λ (k : ℕ). take k (drop at t)) e
-
--- ---- the place of an entry
-
-suc_ltb : (m n : ℕ) → ltb (suc m) (suc n) ≡ ltb m n
-suc_ltb m n = go (bool_cases (ltb m n))
-  where
-    go : (ltb m n ≡ true) ⊎ (ltb m n ≡ false) → ltb (suc m) (suc n) ≡ ltb m n
-    go (inl t) = let h = ltb-true m n t in lt-ltb (suc m) (suc n) (omega arith) ∙ sym t
-    go (inr t) = let h = ltb-false m n t in le-ltb (suc m) (suc n) (omega arith) ∙ sym t
-
-place_any : {A : Type 0} (p : A → Bool) (l : List A) → ltb (position p l) (length l) ≡ any p l
-place_any p [] = refl
-place_any p (x ∷ xs) = go (p x) (place_any p xs)
-  where
-    go : (b : Bool) → ltb (position p xs) (length xs) ≡ any p xs → ltb (cond b zero (suc (position p xs))) (suc (length xs)) ≡ b || any p xs
-    go true h = lt-ltb 0 (suc (length xs)) (omega arith)
-    go false h = suc_ltb (position p xs) (length xs) ∙ h
-
--- where the place is below n, one of the entries is it
-pub place_open : (row t : List ℕ) (n k : ℕ) → k ≡ position (same_list eqb row) (grounds_in n t) → ltb k n ≡ has_row row (grounds_in n t)
-place_open row t n k e = ap₂ ltb e (sym (length_rows 17 n t)) ∙ place_any (same_list eqb row) (grounds_in n t)
-
-pub entry_le : (row t : List ℕ) (n k : ℕ) → k ≡ position (same_list eqb row) (grounds_in n t) → k ≤ n
-entry_le row t n k e = omega (arith, place_le (same_list eqb row) (grounds_in n t), length_rows 17 n t)
 
 -- ---- the events that wait, from event i on
 
@@ -68,18 +41,6 @@ module _ (moments rows : List ℕ) (n i : ℕ) where
       ap (λ (k : ℕ). events_in k (drop i moments) (drop (17 * i) rows)) e
       ∙ ap₂ {C = List EventRow} ◌∷◌ (ap {B = EventRow} (λ k. record { moment = k; row = take 17 (drop (17 * i) rows) }) m)
       (ap₂ (λ (a b : List ℕ). events_in (n - (i + 1)) a b) (drop-drop 1 i moments) (drop-drop 17 (17 * i) rows ∙ ap (λ (k : ℕ). drop k rows) f))
-
-  -- a test on each
-  module _ (p : EventRow → Bool) where
-    pub ends_end : n ≤ i → all p events_from ≡ true
-    ends_end h = rw (events_end h)
-
-    module _ (h : i < n) (r : Bool) (e : r ≡ p (event_at moments rows i)) where
-      pub ends_miss : r ≡ false → all p events_from ≡ false
-      ends_miss f = let g = sym e ∙ f in rw (events_more h, g)
-
-      pub ends_hit : r ≡ true → all p events_from ≡ all p events_behind
-      ends_hit f = let g = sym e ∙ f in rw (events_more h, g)
 
   -- the ends among them leave
   module _ (o : Open) where
@@ -109,63 +70,102 @@ events_first moments rows n = ap (λ (k : ℕ). events_in k moments rows) (sub-z
 
 -- ---- an entry taken out
 
--- a copy over all of a list as long
-pub whole_copy : (d s t : List ℕ) → length d ≡ length s → t ≡ paste d 0 s (length s) → t ≡ s
-whole_copy d s t h e = e ∙ ap₂ ◌++◌ (take_all (length s) s (omega arith)) (drop_of_length-le d {i = 0 + length s} (omega arith)) ∙ append-nil s
+-- the later entries forward, and it behind them; then zeros in its place
+module _ (old turned : List ℕ) (k : ℕ) (size : length old ≡ 544) (few : k < 32)
+    (e : turned ≡ drop 17 (mid_of (17 * k) (length old - 17 * k) old) ++ take 17 (mid_of (17 * k) (length old - 17 * k) old)) where
+  abbrev later : List ℕ
+  later = drop (17 * k + 17) old
 
--- what stands behind the entry k
-abbrev pub behind : ℕ → List ℕ → List ℕ
-behind k t = take (544 - (17 * k + 17)) (drop (17 * k + 17) t)
+  abbrev last : List ℕ
+  last = take 17 (drop (17 * k) old)
 
--- the later entries forward, then zeros behind
-module _ (old copy mid rows : List ℕ) (k : ℕ) (size : length old ≡ 544) (few : k < 32) (w : copy ≡ old) (e : mid ≡ paste old (17 * k) (behind k copy) (length (behind k copy))) where
-  later : behind k copy ≡ drop (17 * k + 17) old
-  later = ap (behind k) w ∙ take_all (544 - (17 * k + 17)) (drop (17 * k + 17) old) (simp length-drop (omega arith))
+  abbrev turned_out : List ℕ
+  turned_out = put_mid (17 * k) (length old - 17 * k) old turned
 
-  length_later : 17 * k + length (behind k copy) ≡ 527
-  length_later = omega (arith, ap length later ∙ length-drop (17 * k + 17) old)
+  turned_is : turned ≡ later ++ last
+  turned_is =
+      e
+      ∙ ap (λ (t : List ℕ). drop 17 t ++ take 17 t) (take_all (length old - 17 * k) (drop (17 * k) old) (simp length-drop (omega arith)))
+      ∙ ap (λ (t : List ℕ). t ++ last) (drop-drop 17 (17 * k) old)
 
-  length_mid : length mid ≡ 544
-  length_mid = ap length e ∙ length-paste old (17 * k) (behind k copy) (length (behind k copy)) (omega (arith, length_later)) (omega arith) ∙ size
+  length_turned : length turned_out ≡ 544
+  length_turned =
+      let a = length-drop (17 * k + 17) old in
+      let b = length-drop (17 * k) old in
+      let c : length last ≡ 17 = length-take-le 17 (drop (17 * k) old) (omega arith) in
+      let d : length turned ≡ length later + length last = ap length turned_is ∙ length-append later last in
+      let m : length (mid_of (17 * k) (length old - 17 * k) old) ≡ length (drop (17 * k) old) =
+      ap length (take_all (length old - 17 * k) (drop (17 * k) old) (omega arith)) in
+      same_len_mid (17 * k) (length old - 17 * k) old turned (omega arith) ∙ size
 
-  front : take 527 mid ≡ take (17 * k) old ++ drop (17 * k + 17) old
+  front : take 527 turned_out ≡ take (17 * k) old ++ later
   front =
-      ap₂ take (sym length_later) e
-      ∙ take-paste old (17 * k) (behind k copy) (length (behind k copy)) (omega arith) (omega arith)
-      ∙ ap (λ (t : List ℕ). take (17 * k) old ++ t) (take_all (length (behind k copy)) (behind k copy) (omega arith) ∙ later)
+      let l = length-append (take (17 * k) old) later in
+      let a = length-take-le (17 * k) old (omega arith) in
+      let b = length-drop (17 * k + 17) old in
+      let rest : List ℕ = post_of (17 * k) (length old - 17 * k) old in
+      ap (λ (t : List ℕ). take 527 (take (17 * k) old ++ (t ++ rest))) turned_is
+      ∙ ap (λ (t : List ℕ). take 527 (take (17 * k) old ++ t)) (append_assoc later last rest)
+      ∙ ap (take 527) (sym (append_assoc (take (17 * k) old) later (last ++ rest)))
+      ∙ take_at (take (17 * k) old ++ later) (last ++ rest) 527 (omega arith)
 
-  pub out_is : rows ≡ paste mid 527 (replicate 17 0) 17 → rows ≡ take (17 * k) old ++ (drop (17 * k + 17) old ++ replicate 17 0)
-  out_is f =
-      f
-      ∙ ap₂ ◌++◌ (ap (λ (t : List ℕ). t ++ replicate 17 0) front) (drop_of_length-le mid {i = 544} (omega (arith, length_mid)))
-      ∙ append-nil ((take (17 * k) old ++ drop (17 * k + 17) old) ++ replicate 17 0)
-      ∙ append_assoc (take (17 * k) old) (drop (17 * k + 17) old) (replicate 17 0)
+  pub rotated_out : (zeros : List ℕ) → zeros ≡ replicate (length (mid_of 527 (length turned_out - 527) turned_out)) 0
+      → put_mid 527 (length turned_out - 527) turned_out zeros ≡ take (17 * k) old ++ (drop (17 * k + 17) old ++ replicate 17 0)
+  rotated_out zeros f =
+      let n = length_turned in
+      let d = length-drop 527 turned_out in
+      let m : length (mid_of 527 (length turned_out - 527) turned_out) ≡ 17 = length-take-le (length turned_out - 527) (drop 527 turned_out) (omega arith) ∙ omega arith in
+      ap₂ ◌++◌ front
+      (ap₂ ◌++◌ (f ∙ ap (λ (n : ℕ). replicate {A = ℕ} n 0) m) (drop_of_length-le (drop 527 turned_out) {i = length turned_out - 527} (omega arith))
+      ∙ append-nil (replicate 17 0))
+      ∙ append_assoc (take (17 * k) old) later (replicate 17 0)
 
 -- the first equal entry out
-module _ (o : Open) (row : List ℕ) (k : ℕ) (e : k ≡ position (same_list eqb row) (grounds_in o.count o.rows)) where
-  by_place : close_entry row o ≡ cond (eqb k o.count) o (without_entry k o)
+module _ (o : Open) (row : List ℕ) where
+  abbrev place : ℕ
+  place = position (same_list eqb row) (grounds_in o.count o.rows)
+
+  place_at_most : place ≤ o.count
+  place_at_most = omega (arith, place_le (same_list eqb row) (grounds_in o.count o.rows), length_rows 17 o.count o.rows)
+
+  -- where there is one, and where not
+  found_at : (k : Option ℕ) → entry_place row (grounds_in o.count o.rows) ≡ k → cond (ltb place o.count) (Some place) None ≡ k
+  found_at k e = ap (λ (n : ℕ). cond (ltb place n) (Some place) None) (sym (length_rows 17 o.count o.rows)) ∙ e
+
+  pub close_none : entry_place row (grounds_in o.count o.rows) ≡ None → o ≡ close_entry row o
   unfolding close_entry
-  by_place = ap (λ (k : ℕ). cond (eqb k o.count) o (without_entry k o)) (sym e)
+  close_none e = go (ltb place o.count) refl (found_at None e)
+    where
+      go : (b : Bool) → ltb place o.count ≡ b → cond b (Some place) None ≡ None → o ≡ cond (eqb place o.count) o (without_entry place o)
+      go true t f = absurd (cc)
+      go false t f =
+          let a = ltb-false place o.count t in
+          let b = place_at_most in
+          sym (ap (λ (b : Bool). cond b o (without_entry place o)) (eq-eqb place o.count (omega arith)))
 
-  pub close_none : k ≡ o.count → o ≡ close_entry row o
-  close_none f = sym (by_place ∙ ap (λ (b : Bool). cond b o (without_entry k o)) (eq-eqb k o.count f))
+  module _ {k : ℕ} (e : entry_place row (grounds_in o.count o.rows) ≡ Some k) where
+    place_is : (k ≡ place) × (k < o.count)
+    place_is = go (ltb place o.count) refl (found_at (Some k) e)
+      where
+        go : (b : Bool) → ltb place o.count ≡ b → cond b (Some place) None ≡ Some k → (k ≡ place) × (k < o.count)
+        go true t f = let a = ltb-true place o.count t in let i : k ≡ place = cc in (i, omega arith)
+        go false t f = absurd (cc)
 
-  pub close_some : (k ≡ o.count → ⊥) → (rows : List ℕ) → rows ≡ take (17 * k) o.rows ++ (drop (17 * k + 17) o.rows ++ replicate 17 0)
-      → record { count = o.count - 1; rows = rows } ≡ close_entry row o
-  unfolding without_entry
-  close_some f rows g =
-      ap {B = Open} (λ t. record { count = o.count - 1; rows = t }) g ∙ sym (by_place ∙ ap (λ (b : Bool). cond b o (without_entry k o)) (ne_eqb k o.count f))
+    pub place_few : k < o.count
+    place_few = place_is.1
+
+    pub close_some : (rows : List ℕ) → rows ≡ take (17 * k) o.rows ++ (drop (17 * k + 17) o.rows ++ replicate 17 0)
+        → record { count = o.count - 1; rows = rows } ≡ close_entry row o
+    unfolding close_entry without_entry
+    close_some rows g =
+        let i = place_is.0 in
+        let l = place_is.1 in
+        ap {B = Open} (λ t. record { count = o.count - 1; rows = t }) g
+        ∙ ap (λ (n : ℕ). without_entry n o) i
+        ∙ sym (ap (λ (b : Bool). cond b o (without_entry place o)) (ne_eqb place o.count (λ z. omega arith)))
 
 -- of an event
 module _ (o : Open) (e : EventRow) where
-  pub close_start : (e.moment ≡ 1 → ⊥) → o ≡ close_event e o
-  unfolding close_event
-  close_start h = rw (ne_eqb e.moment 1 h)
-
-  pub close_end_lem : e.moment ≡ 1 → (r : Open) → r ≡ close_entry e.row o → r ≡ close_event e o
-  unfolding close_event
-  close_end_lem h r f = rw (eq-eqb e.moment 1 h) f
-
   pub close_fewer : (r : Open) → r ≡ close_event e o → r.count ≤ o.count
   unfolding close_event close_entry without_entry
   close_fewer r f =
@@ -182,15 +182,21 @@ pub closes_fewer : (es : List EventRow) (o r : Open) → r ≡ close_events es o
 closes_fewer [] o r f = let z = ap (λ (r : Open). r.count) f in omega arith
 closes_fewer (e ∷ es) o r f = let a = closes_fewer es (close_event e o) r f in let b = close_fewer o e (close_event e o) refl in omega arith
 
--- where it is an end, it is open
-module _ (rows : List (List ℕ)) (e : EventRow) where
-  pub open_start : (e.moment ≡ 1 → ⊥) → true ≡ end_open rows e
-  unfolding end_open
-  open_start h = rw (ne_eqb e.moment 1 h)
+-- ---- what the answer says of where entries fit
 
-  pub open_end : e.moment ≡ 1 → (r : Bool) → r ≡ has_row e.row rows → r ≡ end_open rows e
-  unfolding end_open
-  open_end h r f = rw (eq-eqb e.moment 1 h) f
+pub fits_not : (r : OpenAfter) → count_after r ≡ None → r.fits ≡ false
+fits_not r e = go r.fits e
+  where
+    go : (b : Bool) → cond b (Some r.running.count) None ≡ None → b ≡ false
+    go true f = absurd (cc)
+    go false f = refl
+
+pub fits_with : (r : OpenAfter) {k : ℕ} → count_after r ≡ Some k → (r.fits ≡ true) × (r.running.count ≡ k)
+fits_with r {k} e = go r.fits e
+  where
+    go : (b : Bool) → cond b (Some r.running.count) None ≡ Some k → (b ≡ true) × (r.running.count ≡ k)
+    go true f = (refl, cc)
+    go false f = absurd (cc)
 
 -- ---- an entry more
 
@@ -201,38 +207,6 @@ join_is o row rows k h e = ap {B = Open} (λ t. record { count = o.count + 1; ro
 -- ---- of an event
 
 module _ (head : List ℕ) where
-  module _ (moment action : ℕ) where
-    pub opens_end : moment ≡ 1 → false ≡ opens_by head moment action
-    unfolding opens_by
-    opens_end h = rw (eq-eqb moment 1 h)
-
-    pub opens_unlisted : (moment ≡ 1 → ⊥) → actions_in head ≤ action → false ≡ opens_by head moment action
-    unfolding opens_by
-    opens_unlisted h l = rw (ne_eqb moment 1 h, le-ltb action (actions_in head) l)
-
-    pub opens_sort : (moment ≡ 1 → ⊥) → action < actions_in head → lasting_in head action ≡ opens_by head moment action
-    unfolding opens_by
-    opens_sort h l = rw (ne_eqb moment 1 h, lt-ltb action (actions_in head) l)
-
-  module _ (moments events : List ℕ) (i : ℕ) (o : Open) (b : Bool) (f : b ≡ opens_by head (get_or moments i 0) (get_or events (17 * i) 0)) where
-    abbrev e : EventRow
-    e = event_at moments events i
-
-    by_start : join_event head e o
-        ≡ cond b (cond (ltb o.count 32) (record { fits = true; running = join_entry e.row o }) (record { fits = false; running = o })) (record { fits = true; running = o })
-    unfolding join_event
-    by_start = ap {B = OpenAfter} (λ b. cond b (cond (ltb o.count 32) (record { fits = true; running = join_entry e.row o }) (record { fits = false; running = o })) (record { fits = true; running = o }))
-        (ap (opens_by head (get_or moments i 0)) (first_at_lem 17 events (17 * i) (omega arith)) ∙ sym f)
-
-    pub joins_not : b ≡ false → record { fits = true; running = o } ≡ join_event head e o
-    joins_not h = sym (by_start ∙ rw h)
-
-    pub joins_no_room : b ≡ true → 32 ≤ o.count → record { fits = false; running = o } ≡ join_event head e o
-    joins_no_room h l = sym (by_start ∙ rw (h, le-ltb o.count 32 l))
-
-    pub joins_one : b ≡ true → o.count < 32 → (r : Open) → r ≡ join_entry e.row o → record { fits = true; running = r } ≡ join_event head e o
-    joins_one h l r g = ap {B = OpenAfter} (λ t. record { fits = true; running = t }) g ∙ sym (by_start ∙ rw (h, lt-ltb o.count 32 l))
-
   pub joins_few : (e : EventRow) (o : Open) → o.count ≤ 32 → (r : OpenAfter) → r ≡ join_event head e o → r.running.count ≤ 32
   unfolding join_event join_entry
   joins_few e o h r f = let k = go (opens_by head e.moment (get_or e.row 0 0)) (ltb o.count 32) refl in let z = ap (λ (r : OpenAfter). r.running.count) f in omega arith

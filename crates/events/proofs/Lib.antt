@@ -9,3 +9,4 @@ pub mod OpenRows
 pub mod MoreWaiting
 pub mod GroundLiterals
 pub mod Agenda
+pub mod ByIndex

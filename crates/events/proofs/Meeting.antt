@@ -1,15 +1,14 @@
--- Rows that meet: two rows without FF among their arguments meet only where they are the same, so that equality tells it; and whether a row
--- is a pattern, byte by byte. Assumes nothing.
+-- Rows that meet: two rows without FF among their arguments meet only where they are the same, so that equality tells it.
+-- Assumes nothing.
 use mathlib.Core.Path.{◌≡◌, refl, sym, ap, ap₂, ◌∙◌}
 use mathlib.Core.Bool.{Bool, true, false, ◌&&◌, ◌||◌}
 use mathlib.Core.List.Memᴰ
 use mathlib.Core.List.{List, [], ◌∷◌, ◌++◌, map}
-use Prim.Native.Nat.{ℕ, zero, suc, ◌+◌, ◌-◌, ◌≤◌, ◌<◌}
-use native.Mathlib.Numerals.{add-one}
+use Prim.Native.Nat.{ℕ, ◌-◌, ◌<◌}
 use native.Mathlib.Omega.{arith}
 use lib.Dec.{eqb}
-use lib.ListN.{length, get_or, take, drop, replicate, length-map, drop_of_length-le}
-use lib.Seq.{take_at, drop-cons}
+use lib.ListN.{length, drop, replicate, length-map}
+use lib.Seq.{take_at}
 use borrow.Author.Tests.{eqb-true, eq-eqb, ne_eqb}
 use Rattle.records.specs.Lists.{In, any, same_list}
 use Rattle.records.proofs.Lists.{and_i, clash, or_l, or_out, same_list_self}
@@ -17,8 +16,7 @@ use Rattle.literals.specs.declared.Object.{Object}
 use Rattle.literals.specs.declared.Argument.{Argument}
 use Rattle.literals.specs.Domain.{Atom, Fact, Domain}
 use Rattle.literals.specs.Decode.{byte}
-use Rattle.literals.specs.Held.{meet_byte, arguments_meet, arity_in, HeadOf}
-use Rattle.literals.proofs.Rows.{length_part, part_at}
+use Rattle.literals.specs.Held.{meet_byte, arity_in, HeadOf}
 use Rattle.verdict.specs.Binding.{Binding}
 use Rattle.verdict.specs.Judged.{object_numbers}
 use Rattle.verdict.specs.Machine.{GroundAction}
@@ -145,62 +143,3 @@ pub chosen_meets : {D : Domain} {head : List ℕ} → HeadOf D head → {objs : 
 chosen_meets {D} {head} H C {p} P k f m =
     meet_same head p (fact_row f) P (formed_fact head f ((C.facts f m).sized ∙ sym (H.arities f.rel))) k
     (fact_plain f (λ o i. C.low o ((C.facts f m).over o i)))
-
--- ---- two rows of memories, by their relations
-
-module _ (x y : List ℕ) (i j : ℕ) (h : i + 8 ≤ length x) (g : j + 8 ≤ length y) where
-  relations_at : eqb (byte (take 8 (drop i x)) 0) (byte (take 8 (drop j y)) 0) ≡ eqb (get_or x i 0) (get_or y j 0)
-  relations_at =
-      let a : i + 0 ≡ i = omega arith in
-      let b : j + 0 ≡ j = omega arith in
-      ap₂ eqb (part_at 8 x i h 0 (omega arith) ∙ ap (λ (k : ℕ). get_or x k 0) a) (part_at 8 y j g 0 (omega arith) ∙ ap (λ (k : ℕ). get_or y k 0) b)
-
-  pub patterns_meeting : {r : Bool} → get_or x i 0 ≡ get_or y j 0 → r ≡ arguments_meet (take 8 (drop i x)) (take 8 (drop j y))
-      → r ≡ patterns_meet (take 8 (drop i x)) (take 8 (drop j y))
-  patterns_meeting e f =
-      f ∙ sym (ap (λ (t : Bool). t && arguments_meet (take 8 (drop i x)) (take 8 (drop j y))) (relations_at ∙ eq-eqb _ _ e))
-
-  pub patterns_apart : (get_or x i 0 ≡ get_or y j 0 → ⊥) → false ≡ patterns_meet (take 8 (drop i x)) (take 8 (drop j y))
-  patterns_apart n = sym (ap (λ (t : Bool). t && arguments_meet (take 8 (drop i x)) (take 8 (drop j y))) (relations_at ∙ ne_eqb _ _ n))
-
--- ---- whether a row is a pattern, from the byte k on
-
-module _ (t : List ℕ) (at : ℕ) (h : at + 8 ≤ length t) (end : ℕ) (e : end ≡ 2 + get_or t (at + 1) 0) where
-  abbrev row : List ℕ
-  row = take 8 (drop at t)
-
-  abbrev pub pattern_from : ℕ → Bool
-  pattern_from k = any (eqb 255) (take (end - k) (drop k row))
-
-  pub pattern_first : pattern_from 2 ≡ is_pattern row
-  unfolding is_pattern
-  pattern_first =
-      let b = part_at 8 t at h 1 (omega arith) in
-      let z : end - 2 ≡ byte row 1 = omega arith in
-      ap (λ (n : ℕ). any (eqb 255) (take n (drop 2 row))) z
-
-  module _ (k : ℕ) where
-    pub pattern_end : end ≤ k → pattern_from k ≡ false
-    pattern_end l = let z : end - k ≡ 0 = omega arith in rw z
-
-    pub pattern_out : 8 ≤ k → pattern_from k ≡ false
-    pattern_out l =
-        ap (λ (x : List ℕ). any (eqb 255) (take (end - k) x)) (drop_of_length-le row {i = k} (omega (arith, length_part 8 t at h)))
-        ∙ none (end - k)
-      where
-        none : (n : ℕ) → any (eqb 255) (take n []) ≡ false
-        none zero = refl
-        none (suc n) = refl
-
-    module _ (l : k < 8) (m : k < end) where
-      one : pattern_from k ≡ eqb 255 (get_or t (at + k) 0) || pattern_from (k + 1)
-      one =
-          let z : end - k ≡ suc (end - (k + 1)) = omega arith in
-          ap₂ (λ (n : ℕ) (x : List ℕ). any (eqb 255) (take n x)) z (drop-cons row k 0 (omega (arith, length_part 8 t at h)))
-          ∙ ap₂ (λ (b : ℕ) (j : ℕ). eqb 255 b || any (eqb 255) (take (end - (k + 1)) (drop j row))) (part_at 8 t at h k l) (sym (add-one k))
-
-      pub pattern_hit : get_or t (at + k) 0 ≡ 255 → pattern_from k ≡ true
-      pattern_hit f = one ∙ or_l (pattern_from (k + 1)) (eq-eqb 255 (get_or t (at + k) 0) (sym f))
-
-      pub pattern_miss : (get_or t (at + k) 0 ≡ 255 → ⊥) → pattern_from k ≡ pattern_from (k + 1)
-      pattern_miss f = one ∙ ap (λ (b : Bool). b || pattern_from (k + 1)) (ne_eqb 255 (get_or t (at + k) 0) (λ g. f (sym g)))

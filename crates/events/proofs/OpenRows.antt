@@ -23,7 +23,9 @@ use Rattle.literals.proofs.KeyRows.{place_le}
 use Rattle.verdict.specs.Machine.{GroundAction, Event, same_ground, is_open_at, is_open, close_one, close_at, close_all, opens, opened_by}
 use Rattle.events.specs.Held.{Open, Waiting, ground_row, grounds_in, open_of, waiting_of, GroundFits, GroundsFit, EventsFit, EventRow}
 use Rattle.events.specs.Held.{events_in, end_open, without_entry, close_entry, close_event, close_events, join_entry, opens_by, join_event}
-use Rattle.events.specs.Held.{join_events, OpenAfter}
+use Rattle.events.specs.Held.{join_events, OpenAfter, count_after, rows_after}
+use Rattle.events.proofs.GroundRows.{fits_with}
+use Rattle.std.specs.Prelude.{Option, Some, None, is_some}
 use Rattle.store.specs.Held.{has_row}
 use Rattle.events.proofs.FactRows.{few_objects, length_ground_row}
 use Rattle.events.proofs.Members.{close_in, closed_in}
@@ -251,6 +253,20 @@ module _ {D : Domain} (B : Bounded D) where
 -- what the answer says of the entries afterwards
 abbrev pub Tells : OpenAfter → List GroundAction → Type 0
 Tells r gs = (r.fits ≡ leb (length gs) 32) × (r.fits ≡ true → r.running ≡ open_of gs)
+
+-- the same of the count and the bytes, as the code answers them
+pub told : (r : OpenAfter) (gs : List GroundAction) → Tells r gs → {k : Option ℕ} {rows : List ℕ} → k ≡ count_after r → rows ≡ rows_after r
+    → (is_some k ≡ leb (length gs) 32) × ((n : ℕ) → k ≡ Some n → record { count = n; rows = rows } ≡ open_of gs)
+told r gs t {k} {rows} e f = (ap is_some e ∙ by_fits r.fits ∙ t.0, held)
+  where
+    by_fits : (b : Bool) → is_some (cond b (Some r.running.count) None) ≡ b
+    by_fits true = refl
+    by_fits false = refl
+
+    held : (n : ℕ) → k ≡ Some n → record { count = n; rows = rows } ≡ open_of gs
+    held n g =
+        let w = fits_with r (sym e ∙ g) in
+        ap₂ {C = Open} (λ m t. record { count = m; rows = t }) (sym w.1) f ∙ t.1 w.0
 
 -- ---- "starts join it": those of lasting actions
 

@@ -1,25 +1,16 @@
--- Laws of a literal's row, bound, and of the rows of an action. Assumes nothing.
+-- Laws of a literal's row, bound. Assumes nothing.
 use mathlib.Core.Path.{◌≡◌, refl, sym, ap, ◌∙◌}
-use mathlib.Core.List.{List, [], ◌++◌, map, append-nil}
+use mathlib.Core.List.{List, ◌++◌, map}
 use Prim.Native.Nat.{ℕ, zero, suc, ◌+◌, ◌-◌, ◌≤◌, ◌<◌}
 use native.Mathlib.Omega.{arith}
-use lib.ListN.{length, get_or, set, take, drop, replicate, length-append, length-drop, length-map, length-replicate, get_or-replicate, get_or-append}
-use lib.Seq.{paste, take_all, length-take-le, get_or-take, get_or-drop, get_or-append-add}
-use borrow.Author.Tests.{lt-ltb, le-ltb}
-use Rattle.records.proofs.Memory.{paste_more}
-use Rattle.literals.specs.Decode.{byte}
+use lib.ListN.{length, get_or, take, drop, replicate, length-append, length-drop, length-map, length-replicate, get_or-replicate, get_or-append}
+use lib.Seq.{length-take-le, get_or-take, get_or-drop, get_or-append-add}
 use Rattle.literals.proofs.Rows.{length_part, part_at}
 use Rattle.literals.proofs.Indices.{get_d_map}
 use Rattle.literals.specs.Held.{arity_in}
 use Rattle.events.specs.Held.{bound_argument, bound_bytes, bound_row}
 
 -- ---- a literal's row, bound
-
-pub argument_bound : (act : List ℕ) (v : ℕ) → v < 16 → get_or act (v + 1) 0 ≡ bound_argument act v
-argument_bound act v h = rw (lt-ltb v 16 h)
-
-pub argument_stays : (act : List ℕ) (v : ℕ) → 16 ≤ v → 255 ≡ bound_argument act v
-argument_stays act v h = rw (le-ltb v 16 h)
 
 module _ (arity : ℕ) (act t : List ℕ) (at : ℕ) (h : at + 8 ≤ length t) (g : arity ≤ 6) where
   abbrev row : List ℕ
@@ -40,9 +31,6 @@ module _ (arity : ℕ) (act t : List ℕ) (at : ℕ) (h : at + 8 ≤ length t) (
       let a = length-append objects (replicate (6 - arity) 255) in
       let r = length-replicate {A = ℕ} (6 - arity) 255 in
       omega arith
-
-  pub bound_first : (i : ℕ) → i ≡ 0 → get_or t (at + 1) 0 ≡ get_or (bound_bytes arity act row) i 0
-  bound_first i e = sym (part_at 8 t at h 1 (omega arith)) ∙ ap (λ (i : ℕ). get_or (bound_bytes arity act row) i 0) (sym e)
 
   pub bound_object : (i r : ℕ) → (i ≡ 0 → ⊥) → (i ≡ 1 → ⊥) → i < 2 + arity
       → r ≡ bound_argument act (get_or t (at + i) 0) → r ≡ get_or (bound_bytes arity act row) i 0
@@ -70,26 +58,8 @@ module _ (arity : ℕ) (act t : List ℕ) (at : ℕ) (h : at + 8 ≤ length t) (
       ∙ get_or-append-add objects (replicate (6 - arity) 255) (k - arity) 0
       ∙ get_or-replicate (6 - arity) (k - arity) 255 0 (omega arith))
 
--- the row that is filled, i bytes of it so far
-module _ (arity : ℕ) (act t : List ℕ) (at : ℕ) (h : at + 8 ≤ length t) (g : arity ≤ 6) (fact : List ℕ) (i : ℕ)
-    (e : fact ≡ paste (replicate 8 255) 0 (bound_bytes arity act (take 8 (drop at t))) i) where
-  pub bound_more : (r : ℕ) → i < 8 → r ≡ get_or (bound_bytes arity act (take 8 (drop at t))) i 0 → set fact i r ≡ paste (replicate 8 255) 0 (bound_bytes arity act (take 8 (drop at t))) (i + 1)
-  bound_more r l f =
-      let z : 0 + i ≡ i = omega arith in
-      ap (λ (k : ℕ). set fact k r) (sym z)
-      ∙ paste_more (bound_bytes arity act (take 8 (drop at t))) (replicate 8 255) fact 0 i 8 (omega arith) (length_bound arity act t at h g) e r l f
-
-  pub bound_all : (head : List ℕ) → arity ≡ arity_in head (get_or t (at + 1) 0) → i ≡ 8 → fact ≡ bound_row head act (take 8 (drop at t))
+  -- the whole row, by the arity that the head has
+  pub bound_whole : {fact : List ℕ} → fact ≡ bound_bytes arity act row → (head : List ℕ) → arity ≡ arity_in head (get_or t (at + 1) 0)
+      → fact ≡ bound_row head act row
   unfolding bound_row
-  bound_all head f z =
-      let row : List ℕ = take 8 (drop at t) in
-      e
-      ∙ ap (λ (k : ℕ). paste (replicate 8 255) 0 (bound_bytes arity act row) k) z
-      ∙ ap (λ (l : List ℕ). l ++ []) (take_all 8 (bound_bytes arity act row) (omega (arith, length_bound arity act t at h g)))
-      ∙ append-nil (bound_bytes arity act row)
-      ∙ ap (λ (n : ℕ). bound_bytes n act row) (f ∙ sym (ap (arity_in head) (part_at 8 t at h 1 (omega arith))))
-
--- its second byte is the arity of its relation
-pub bound_sized : (head act row fact : List ℕ) → fact ≡ bound_row head act row → byte fact 1 ≡ arity_in head (byte fact 0)
-unfolding bound_row
-bound_sized head act row fact e = ap (λ (t : List ℕ). byte t 1) e ∙ sym (ap (λ (t : List ℕ). arity_in head (byte t 0)) e)
+  bound_whole e head f = e ∙ ap (λ (n : ℕ). bound_bytes n act row) (f ∙ sym (ap (arity_in head) (part_at 8 t at h 1 (omega arith))))

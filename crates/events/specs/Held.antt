@@ -1,6 +1,7 @@
 -- How the code holds a run: open entries and waiting events as rows of bytes, and ground literals, those of an action with its objects
 -- that count at a time, with the memory that holds those of a step. Assumes nothing.
 use Rattle.std.specs.Prelude.{◌≡◌, Bool, true, false, ◌&&◌, not, cond, ℕ, zero, suc, ◌+◌, ◌-◌, ◌*◌, ◌<◌, eqb, ltb, length, get_or, take, drop, replicate}
+use Rattle.std.specs.Prelude.{Option, Some, None}
 use mathlib.Core.List.{List, [], ◌∷◌, ◌++◌, map, flat_map}
 use Rattle.std.proofs.Math.Seq.{paste}
 use Rattle.records.specs.Lists.{In, any, same_list, position, filter_by}
@@ -169,6 +170,12 @@ without_entry k o =
       rows = take (ground_bytes * k) o.rows ++ (drop (ground_bytes * k + ground_bytes) o.rows ++ replicate ground_bytes 0);
     }
 
+-- the place of the first entry that is this one, where there is one
+abbrev pub entry_place : List ℕ → List (List ℕ) → Option ℕ
+entry_place row rows =
+    let k = position (same_list eqb row) rows in
+    cond (ltb k (length rows)) (Some k) None
+
 -- without the first equal entry
 unfoldable pub close_entry : List ℕ → Open → Open
 unfolding without_entry
@@ -198,6 +205,13 @@ opens_by head moment action = not (eqb moment 1) && ltb action (actions_in head)
 pub record OpenAfter : Type 0 where
   pub fits : Bool
   pub running : Open
+
+-- how many entries that is, where it fits, and the bytes that are left there
+abbrev pub count_after : OpenAfter → Option ℕ
+count_after r = cond r.fits (Some r.running.count) None
+
+abbrev pub rows_after : OpenAfter → List ℕ
+rows_after r = r.running.rows
 
 -- the entry of such a start is added, where there is room for it
 unfoldable pub join_event : List ℕ → EventRow → Open → OpenAfter

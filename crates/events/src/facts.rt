@@ -8,22 +8,31 @@ ghost use Rattle.verdict.specs.Held.{patterns_meet};
 ghost use Rattle.run_semantics.specs.RunFile.{moment_of};
 ghost use Rattle.events.specs.Held.{ground_bytes, bound_argument, bound_bytes, bound_row, is_pattern, time_of};
 
+use super::{END, GROUND};
 use literals::head::{Head, arity_of};
-use literals::limits::MAX_VARIABLES;
 use literals::row::arguments_meet;
-use literals::{Argument, Object, Time, Variable, argument_of};
-use records::bytes::wide;
+use literals::{Argument, Object, Time, Variable};
+use std::array::from_fn;
+
+// The row i among those of actions with their objects.
+pub fn ground_at(rows: &[u8], i: usize) -> &[u8]
+    requires { ground_bytes * i + ground_bytes ≤ length rows.now }
+    ensures { result.now ≡ take ground_bytes (drop (ground_bytes * i) rows.now) }
+{
+    &rows[GROUND * i..GROUND * i + GROUND]
+}
 
 // The object that an action's row has for a variable. (What is answered for a number that is no variable's is never asked for.)
 fn object_of(act: &[u8], v: Variable) -> Object
     requires { length act.now ≡ ground_bytes }
     ensures { result.0 ≡ bound_argument act.now v.0 }
 {
-    if v.0 < MAX_VARIABLES as u8 {
-        let o = act[v.0 as usize + 1];
-        return Object(o);
+    let place = usize::from(v.0) + 1;
+    if place < GROUND {
+        Object(act[place])
+    } else {
+        Object(255)
     }
-    Object(255)
 }
 
 // The byte of an argument, bound: of a variable its object; FF, every object, stays.
@@ -32,10 +41,7 @@ fn bound_argument(act: &[u8], argument: Argument) -> u8
     ensures { result ≡ bound_argument act.now (argument_number argument) }
 {
     match argument {
-        Argument::Variable(v) => {
-            let o = object_of(act, v);
-            o.0
-        }
+        Argument::Variable(v) => object_of(act, v).0,
         Argument::Every => 255,
     }
 }
@@ -48,17 +54,12 @@ fn bound_byte(arity: u8, act: &[u8], rows: &[u8], row: usize, i: usize) -> u8
     requires arity { arity ≤ max_arguments }
     ensures { result ≡ get_or (bound_bytes arity act.now (take 8 (drop row rows.now))) i 0 }
 {
-    if i == 0 {
-        return rows[row + 1];
+    match i {
+        0 => rows[row + 1],
+        1 => arity,
+        _ if i < 2 + usize::from(arity) => bound_argument(act, Argument::from(rows[row + i])),
+        _ => 255,
     }
-    if i == 1 {
-        return arity;
-    }
-    if i < 2 + arity as usize {
-        let argument = argument_of(rows[row + i]);
-        return bound_argument(act, argument);
-    }
-    255
 }
 
 // The literal's row at an offset, bound.
@@ -68,28 +69,20 @@ pub fn bound_row(head: &Head, act: &[u8], rows: &[u8], row: usize) -> [u8; 8]
     ensures { result ≡ bound_row head.now act.now (take 8 (drop row rows.now)) }
 {
     let arity = arity_of(head, rows[row + 1]);
-    let mut fact = [255u8; 8];
-    for i in 0..8 {
-        fact[i] = bound_byte(arity, act, rows, row, i);
-    }
-    fact
+    from_fn(|i| bound_byte(arity, act, rows, row, i))
 }
 
 // Whether FF stands among the arguments of the row at an offset: a pattern, which is about every fact whose row it meets.
+#[tactic(auto, unfolding(crate::specs::Held::is_pattern))]
 pub fn is_pattern(rows: &[u8], at: usize) -> bool
     requires { at + 8 ≤ length rows.now }
     ensures { result ≡ is_pattern (take 8 (drop at rows.now)) }
 {
-    let end = 2 + wide(rows[at + 1]);
-    for k in 2..8 {
-        if end <= k {
-            return false;
-        }
-        if rows[at + k] == 255 {
-            return true;
-        }
-    }
-    false
+    let row = &rows[at..at + 8];
+    row.iter()
+        .skip(2)
+        .take(usize::from(row[1]))
+        .any(|b| 255 == *b)
 }
 
 // Whether there is one among the first n rows.
@@ -97,14 +90,7 @@ pub fn has_pattern(rows: &[u8], n: usize) -> bool
     requires { 8 * n ≤ length rows.now }
     ensures { result ≡ any is_pattern (rows_in n rows.now) }
 {
-    let mut i = 0;
-    while i < n {
-        if is_pattern(rows, 8 * i) {
-            return true;
-        }
-        i += 1;
-    }
-    false
+    (0..n).any(|i| is_pattern(rows, 8 * i))
 }
 
 // Whether the row at an offset, of a literal or a fact, meets the row at an offset of another memory: they are about a fact in common.
@@ -113,18 +99,15 @@ pub fn patterns_meet(x: &[u8], i: usize, y: &[u8], j: usize) -> bool
     requires other { j + 8 ≤ length y.now }
     ensures { result ≡ patterns_meet (take 8 (drop i x.now)) (take 8 (drop j y.now)) }
 {
-    if x[i] == y[j] {
-        return arguments_meet(x, i, y, j);
-    }
-    false
+    x[i] == y[j] && arguments_meet(x, i, y, j)
 }
 
-// The time of an event's literals, by the byte of its moment: 1 is an end.
+// The time of an event's literals, by the byte of its moment. (A function, no `From`: a byte tells a time only as the byte of a moment.)
 pub fn time_at(moment: u8) -> Time
     ensures { result ≡ time_of (moment_of moment) }
 {
-    if moment == 1 {
-        return Time::AtEnd;
+    match moment {
+        END => Time::AtEnd,
+        _ => Time::AtStart,
     }
-    Time::AtStart
 }

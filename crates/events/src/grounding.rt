@@ -10,24 +10,30 @@ ghost use Rattle.run_semantics.specs.RunFile.{max_events};
 ghost use Rattle.events.specs.Held.{ground_bytes, waiting_bytes, ground_row, waiting_of, GroundFits, EventsFit, ground_literals};
 ghost use Rattle.events.specs.Held.{event_literals, row_literals, max_ground, counts_at, grounded_bytes, ground_in, Grounded};
 
-use super::GROUND;
-use super::facts::{bound_row, time_at};
+use super::facts::{bound_row, ground_at, time_at};
 use literals::head::{Head, actions_in, rows_of};
 use literals::limits::{MAX_EVENTS, MAX_LITERALS};
 use literals::{Time, usage_for};
-use records::bytes::{put_bytes, wide};
 
 // How many a step has at most.
 pub const MAX_GROUND: usize = MAX_EVENTS * MAX_LITERALS;
 
 // Their memory, in sections: a row for each one (relation, arity, arguments: objects, or FF for every object; FF to fill), behind the rows
-// a byte for each one's usage (1 true condition, 2 false condition, 3 add, 4 delete), and behind that a byte for each event of a step, how
-// many it has.
+// a byte for each one's usage, and behind that a byte for each event of a step, how many it has.
 pub const USAGES: usize = 8 * MAX_GROUND;
 
 pub const COUNTS: usize = USAGES + MAX_GROUND;
 
 pub const GROUNDED: usize = COUNTS + MAX_EVENTS;
+
+// The bytes of the usages there: one more than the usage's number, so that 0 stands for none.
+pub const TRUE_CONDITION: u8 = 1;
+
+pub const FALSE_CONDITION: u8 = 2;
+
+pub const ADD: u8 = 3;
+
+pub const DELETE: u8 = 4;
 
 // Appends a ground literal to the first n.
 fn put_literal(memory: &mut [u8], n: usize, usage: u8, row: [u8; 8])
@@ -37,7 +43,7 @@ fn put_literal(memory: &mut [u8], n: usize, usage: u8, row: [u8; 8])
         ≡ ground_in n memory.old ++ (record { usage = usage; row = row } ∷ []) }
     ensures counts { drop counts_at memory.new ≡ drop counts_at memory.old }
 {
-    put_bytes(memory, 8 * n, &row);
+    memory[8 * n..8 * n + 8].copy_from_slice(&row);
     memory[USAGES + n] = usage;
 }
 
@@ -59,11 +65,15 @@ fn ground_literal(
         ++ row_literals time head.now act.now (take 8 (drop row rows.now) ∷ []) }
     ensures counts { drop counts_at memory.new ≡ drop counts_at memory.old }
 {
-    let usage = usage_for(time, rows[row]);
-    if usage == 0 {
+    let Some(usage) = usage_for(time, rows[row]) else {
         return n;
-    }
-    put_literal(memory, n, usage, bound_row(head, act, rows, row));
+    };
+    put_literal(
+        memory,
+        n,
+        u8::from(usage) + 1,
+        bound_row(head, act, rows, row),
+    );
     n + 1
 }
 
@@ -110,7 +120,7 @@ pub fn ground_action(
         → ground_in result memory.new ≡ ground_in n memory.old ++ ground_literals D time g }
     ensures counts { drop counts_at memory.new ≡ drop counts_at memory.old }
 {
-    let action = wide(act[0]);
+    let action = usize::from(act[0]);
     if actions_in(head) <= action {
         return n;
     }
@@ -151,13 +161,11 @@ fn ground_event(
         → ground_in result memory.new ≡ ground_in n memory.old ++ event_literals D e }
     ensures counts { drop counts_at memory.new ≡ drop counts_at memory.old }
 {
-    let at = GROUND * i;
-    let end = at + GROUND;
     ground_action(
         head,
         table,
         time_at(moments[i]),
-        &events[at..end],
+        ground_at(events, i),
         memory,
         n,
     )

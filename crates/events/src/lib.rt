@@ -10,6 +10,9 @@ pub mod waits;
 
 use literals::limits::{MAX_EVENTS, MAX_RUNNING, MAX_VARIABLES};
 
+// The byte of an end's moment.
+pub const END: u8 = 1;
+
 // The row of an action with its objects: action, objects, FF to fill.
 pub const GROUND: usize = 1 + MAX_VARIABLES;
 
@@ -19,7 +22,7 @@ pub const OPEN_ROWS: usize = GROUND * MAX_RUNNING;
 pub const WAITING_ROWS: usize = GROUND * MAX_EVENTS;
 
 // What is open and what waits stand in one memory, the agenda: the entries, 0 behind the last; then of the events of the step that
-// is read the byte of each one's moment (1 is an end), and their rows.
+// is read the byte of each one's moment, and their rows.
 pub const MOMENTS_AT: usize = OPEN_ROWS;
 
 pub const EVENTS_AT: usize = MOMENTS_AT + MAX_EVENTS;

@@ -1,65 +1,53 @@
 // The list of open lasting actions: which ends are open, and what a step leaves of it. An entry is a row of 17 bytes: action,
 // objects, FF to fill.
-ghost use Rattle.std.specs.Prelude.{◌≡◌, true, false, List, [], ◌++◌, ◌+◌, ◌*◌, ◌≤◌, ◌<◌, eqb, leb, length, take, drop, replicate};
-ghost use Rattle.records.specs.Lists.{all, same_list, position};
+ghost use Rattle.std.specs.Prelude.{◌≡◌, List, [], ◌++◌, ℕ, ◌+◌, ◌*◌, ◌≤◌, ◌<◌, eqb, leb, length, take, drop, replicate};
+ghost use Rattle.std.specs.Prelude.{Some, None, is_some};
+ghost use Rattle.records.specs.Lists.{all, same_list};
 ghost use Rattle.literals.specs.Domain.{Domain};
 ghost use Rattle.literals.specs.Held.{Bounded, HeadOf};
 ghost use Rattle.verdict.specs.Machine.{GroundAction, Event, is_open, close_all, opened_by};
 ghost use Rattle.events.specs.Held.{ground_bytes, open_bytes, waiting_bytes, grounds_in, open_of, waiting_of, GroundsFit, EventsFit};
-ghost use Rattle.events.specs.Held.{event_at, events_in, end_open, close_entry, close_event};
+ghost use Rattle.events.specs.Held.{event_at, events_in, end_open, entry_place, close_entry, close_event};
 ghost use Rattle.events.specs.Held.{close_events, join_entry, opens_by, join_event};
-ghost use Rattle.events.specs.Held.{join_events, agenda_bytes, agenda_open, agenda_waiting};
+ghost use Rattle.events.specs.Held.{join_events, count_after, rows_after, agenda_bytes, agenda_open, agenda_waiting};
 ghost use Rattle.store.specs.Held.{has_row};
 ghost use Rattle.run_semantics.specs.RunFile.{max_running, max_events};
 
-use super::{AGENDA, EVENTS_AT, GROUND, MOMENTS_AT, OPEN_ROWS, WAITING_ROWS};
+use super::facts::ground_at;
+use super::{AGENDA, END, EVENTS_AT, GROUND, MOMENTS_AT, OPEN_ROWS};
 use literals::head::{Head, actions_in, is_lasting};
 use literals::limits::{MAX_EVENTS, MAX_RUNNING};
-use records::bytes::{put_bytes, put_zeros, wide};
-
-// How many entries there are once the starts are added, where they fit.
-#[derive(Clone, Copy)]
-pub struct Joined {
-    pub fits: bool,
-    pub count: usize,
-}
 
 // The offset of the last entry that there is room for.
 const LAST_ROW: usize = OPEN_ROWS - GROUND;
 
-// The bytes of the events in the agenda, with those of their moments.
-const WAITING: usize = AGENDA - MOMENTS_AT;
+// The events that wait: the byte of each one's moment, and the rows of their actions with objects.
+#[derive(Clone, Copy)]
+struct Waiting<'a> {
+    moments: &'a [u8],
+    rows: &'a [u8],
+    count: usize,
+    ghost moments_sized: { length moments.now ≡ max_events },
+    ghost rows_sized: { length rows.now ≡ waiting_bytes },
+    ghost few: { count ≤ max_events },
+}
 
-// Whether the entry at an offset is this one.
+// Whether the entry at an offset is this one. (By slices: entries are few, and longer than a number.)
 pub fn same_ground(memory: &[u8], at: usize, act: &[u8]) -> bool
     requires entry { at + ground_bytes ≤ length memory.now }
     requires row { length act.now ≡ ground_bytes }
     ensures { result ≡ same_list eqb act.now (take ground_bytes (drop at memory.now)) }
 {
-    let mut i = 0;
-    while i < GROUND {
-        if act[i] != memory[at + i] {
-            return false;
-        }
-        i += 1;
-    }
-    true
+    act == &memory[at..at + GROUND]
 }
 
-// The number of the first of n entries that is this one, or n.
-fn entry_of(rows: &[u8], n: usize, act: &[u8]) -> usize
+// The number of the first of n entries that is this one.
+fn entry_of(rows: &[u8], n: usize, act: &[u8]) -> Option<usize>
     requires entries { ground_bytes * n ≤ length rows.now }
     requires row { length act.now ≡ ground_bytes }
-    ensures { result ≡ position (same_list eqb act.now) (grounds_in n rows.now) }
+    ensures { result ≡ entry_place act.now (grounds_in n rows.now) }
 {
-    let mut k = 0;
-    while k < n {
-        if same_ground(rows, GROUND * k, act) {
-            return k;
-        }
-        k += 1;
-    }
-    n
+    (0..n).position(|k| same_ground(rows, GROUND * k, act))
 }
 
 // Whether one of n entries is this one.
@@ -68,40 +56,26 @@ fn is_open(rows: &[u8], n: usize, act: &[u8]) -> bool
     requires row { length act.now ≡ ground_bytes }
     ensures { result ≡ has_row act.now (grounds_in n rows.now) }
 {
-    entry_of(rows, n, act) < n
+    (0..n).any(|k| same_ground(rows, GROUND * k, act))
 }
 
 // Whether the waiting event i, where it is an end, is open.
-fn end_open(rows: &[u8], n: usize, moments: &[u8], events: &[u8], i: usize) -> bool
+#[tactic(auto, unfolding(crate::specs::Held::end_open))]
+fn end_open(rows: &[u8], n: usize, waiting: &Waiting, i: usize) -> bool
     requires entries { ground_bytes * n ≤ length rows.now }
-    requires moment { i < length moments.now }
-    requires event { ground_bytes * i + ground_bytes ≤ length events.now }
-    ensures { result ≡ end_open (grounds_in n rows.now) (event_at moments.now events.now i) }
+    requires event { i < max_events }
+    ensures { result ≡ end_open (grounds_in n rows.now) (event_at waiting.now.moments.now waiting.now.rows.now i) }
 {
-    if moments[i] != 1 {
-        return true;
-    }
-    let at = GROUND * i;
-    let end = at + GROUND;
-    is_open(rows, n, &events[at..end])
+    waiting.moments[i] != END || is_open(rows, n, ground_at(waiting.rows, i))
 }
 
-// Whether every end of the first `count` waiting events is open.
-fn all_open(rows: &[u8], n: usize, moments: &[u8], events: &[u8], count: usize) -> bool
+// Whether every end of the waiting events is open.
+fn all_open(rows: &[u8], n: usize, waiting: &Waiting) -> bool
     requires entries { ground_bytes * n ≤ length rows.now }
-    requires moments { count ≤ length moments.now }
-    requires events { ground_bytes * count ≤ length events.now }
     ensures { result ≡ all (end_open (grounds_in n rows.now))
-        (events_in count moments.now events.now) }
+        (events_in waiting.now.count waiting.now.moments.now waiting.now.rows.now) }
 {
-    let mut i = 0;
-    while i < count {
-        if !end_open(rows, n, moments, events, i) {
-            return false;
-        }
-        i += 1;
-    }
-    true
+    (0..waiting.count).all(|i| end_open(rows, n, waiting, i))
 }
 
 // Whether every end of the step is open, by the entries and events of which there are so many.
@@ -115,27 +89,24 @@ pub fn ends_open(rows: &[u8], n: usize, moments: &[u8], events: &[u8], count: us
         → record { count = count; moments = moments.now; rows = events.now } ≡ waiting_of es
         → result ≡ all (is_open gs) es }
 {
-    if MAX_RUNNING < n {
+    if MAX_EVENTS < count || MAX_RUNNING < n {
         return false;
     }
-    if MAX_EVENTS < count {
-        return false;
-    }
-    all_open(rows, n, moments, events, count)
+    let waiting = Waiting {
+        moments,
+        rows: events,
+        count,
+    };
+    all_open(rows, n, &waiting)
 }
 
 // Whether an event of this moment and action is the start of a lasting action.
+#[tactic(auto, unfolding(crate::specs::Held::opens_by))]
 fn opens_entry(head: &Head, moment: u8, action: u8) -> bool
     ensures { result ≡ opens_by head.now moment action }
 {
-    if moment == 1 {
-        return false;
-    }
-    let i = wide(action);
-    if actions_in(head) <= i {
-        return false;
-    }
-    is_lasting(head, i)
+    let i = usize::from(action);
+    moment != END && i < actions_in(head) && is_lasting(head, i)
 }
 
 // Removes the entry k: the later ones move forward, zeros fill the end.
@@ -145,13 +116,8 @@ fn without(rows: &mut [u8], k: usize)
     ensures { rows.new ≡ take (ground_bytes * k) rows.old
         ++ (drop (ground_bytes * k + ground_bytes) rows.old ++ replicate ground_bytes 0) }
 {
-    let mut old = [0u8; OPEN_ROWS];
-    put_bytes(&mut old, 0, rows);
-    let at = GROUND * k;
-    let behind = at + GROUND;
-    put_bytes(rows, at, &old[behind..]);
-    let zeros = [0u8; GROUND];
-    put_bytes(rows, LAST_ROW, &zeros);
+    rows[GROUND * k..].rotate_left(GROUND);
+    rows[LAST_ROW..].fill(0);
 }
 
 // Takes the first of n entries that is this one out; the count afterwards.
@@ -162,43 +128,38 @@ fn close(rows: &mut [u8], n: usize, act: &[u8]) -> usize
     ensures { record { count = result; rows = rows.new }
         ≡ close_entry act.now (record { count = n; rows = rows.old }) }
 {
-    let k = entry_of(rows, n, act);
-    if k == n {
+    let Some(k) = entry_of(rows, n, act) else {
         return n;
-    }
+    };
     without(rows, k);
     n - 1
 }
 
 // Takes the entry of the event i out, where it is an end; the count afterwards.
-fn close_event(rows: &mut [u8], n: usize, moments: &[u8], events: &[u8], i: usize) -> usize
+#[tactic(auto, unfolding(crate::specs::Held::close_event))]
+fn close_event(rows: &mut [u8], n: usize, waiting: &Waiting, i: usize) -> usize
     requires entries { length rows.old ≡ open_bytes }
     requires few { n ≤ max_running }
-    requires moment { i < length moments.now }
-    requires event { ground_bytes * i + ground_bytes ≤ length events.now }
+    requires event { i < max_events }
     ensures { record { count = result; rows = rows.new }
-        ≡ close_event (event_at moments.now events.now i) (record { count = n; rows = rows.old }) }
+        ≡ close_event (event_at waiting.now.moments.now waiting.now.rows.now i) (record { count = n; rows = rows.old }) }
 {
-    if moments[i] != 1 {
+    if waiting.moments[i] != END {
         return n;
     }
-    let at = GROUND * i;
-    let end = at + GROUND;
-    close(rows, n, &events[at..end])
+    close(rows, n, ground_at(waiting.rows, i))
 }
 
-// Takes the entries of the ends among the first `count` events out; the count of entries afterwards.
-fn close_all(rows: &mut [u8], n: usize, moments: &[u8], events: &[u8], count: usize) -> usize
+// Takes the entries of the ends among the waiting events out; the count of entries afterwards.
+fn close_all(rows: &mut [u8], n: usize, waiting: &Waiting) -> usize
     requires entries { length rows.old ≡ open_bytes }
     requires few { n ≤ max_running }
-    requires moments { count ≤ length moments.now }
-    requires events { ground_bytes * count ≤ length events.now }
     ensures { record { count = result; rows = rows.new }
-        ≡ close_events (events_in count moments.now events.now) (record { count = n; rows = rows.old }) }
+        ≡ close_events (events_in waiting.now.count waiting.now.moments.now waiting.now.rows.now) (record { count = n; rows = rows.old }) }
 {
     let mut left = n;
-    for i in 0..count {
-        left = close_event(rows, left, moments, events, i);
+    for i in 0..waiting.count {
+        left = close_event(rows, left, waiting, i);
     }
     left
 }
@@ -211,77 +172,48 @@ fn join(rows: &mut [u8], n: usize, act: &[u8])
     ensures { record { count = n + 1; rows = rows.new }
         ≡ join_entry act.now (record { count = n; rows = rows.old }) }
 {
-    put_bytes(rows, GROUND * n, act);
+    let at = GROUND * n;
+    rows[at..at + GROUND].copy_from_slice(act);
 }
 
-// Puts the entry of the event i behind the first n, where it is the start of a lasting action.
-fn join_event(
-    head: &Head,
-    rows: &mut [u8],
-    n: usize,
-    moments: &[u8],
-    events: &[u8],
-    i: usize,
-) -> Joined
+// Puts the entry of the event i behind the first n, where it is the start of a lasting action; the count of entries afterwards, if there is
+// room for it.
+#[tactic(auto, unfolding(crate::specs::Held::join_event))]
+fn join_event(head: &Head, rows: &mut [u8], n: usize, waiting: &Waiting, i: usize) -> Option<usize>
     requires entries { length rows.old ≡ open_bytes }
     requires few { n ≤ max_running }
-    requires moment { i < length moments.now }
-    requires event { ground_bytes * i + ground_bytes ≤ length events.now }
-    ensures { record { fits = result.fits; running = record { count = result.count; rows = rows.new } }
-        ≡ join_event head.now (event_at moments.now events.now i)
-        (record { count = n; rows = rows.old }) }
+    requires event { i < max_events }
+    ensures count { result ≡ count_after (join_event head.now (event_at waiting.now.moments.now waiting.now.rows.now i)
+        (record { count = n; rows = rows.old })) }
+    ensures rows { rows.new ≡ rows_after (join_event head.now (event_at waiting.now.moments.now waiting.now.rows.now i)
+        (record { count = n; rows = rows.old })) }
 {
-    let at = GROUND * i;
-    if !opens_entry(head, moments[i], events[at]) {
-        return Joined {
-            fits: true,
-            count: n,
-        };
+    let act = ground_at(waiting.rows, i);
+    if !opens_entry(head, waiting.moments[i], act[0]) {
+        return Some(n);
     }
     if MAX_RUNNING <= n {
-        return Joined {
-            fits: false,
-            count: n,
-        };
+        return None;
     }
-    let end = at + GROUND;
-    join(rows, n, &events[at..end]);
-    Joined {
-        fits: true,
-        count: n + 1,
-    }
+    join(rows, n, act);
+    Some(n + 1)
 }
 
-// Puts the entries of the starts of lasting actions among the first `count` events behind the first n, up to the first for
+// Puts the entries of the starts of lasting actions among the waiting events behind the first n, up to the first for
 // which there is no room.
-fn join_all(
-    head: &Head,
-    rows: &mut [u8],
-    n: usize,
-    moments: &[u8],
-    events: &[u8],
-    count: usize,
-) -> Joined
+fn join_all(head: &Head, rows: &mut [u8], n: usize, waiting: &Waiting) -> Option<usize>
     requires entries { length rows.old ≡ open_bytes }
     requires few { n ≤ max_running }
-    requires moments { count ≤ length moments.now }
-    requires events { ground_bytes * count ≤ length events.now }
-    ensures { record { fits = result.fits; running = record { count = result.count; rows = rows.new } }
-        ≡ join_events head.now (events_in count moments.now events.now)
-        (record { count = n; rows = rows.old }) }
+    ensures count { result ≡ count_after (join_events head.now (events_in waiting.now.count waiting.now.moments.now waiting.now.rows.now)
+        (record { count = n; rows = rows.old })) }
+    ensures rows { rows.new ≡ rows_after (join_events head.now (events_in waiting.now.count waiting.now.moments.now waiting.now.rows.now)
+        (record { count = n; rows = rows.old })) }
 {
     let mut held = n;
-    for i in 0..count {
-        let joined = join_event(head, rows, held, moments, events, i);
-        if !joined.fits {
-            return joined;
-        }
-        held = joined.count;
+    for i in 0..waiting.count {
+        held = join_event(head, rows, held, waiting, i)?;
     }
-    Joined {
-        fits: true,
-        count: held,
-    }
+    Some(held)
 }
 
 // The entries after a step, in place of those before it: ends are removed, starts of lasting actions are added. Where they do not fit,
@@ -293,7 +225,7 @@ fn open_after(
     moments: &[u8],
     events: &[u8],
     count: usize,
-) -> Joined
+) -> Option<usize>
     requires entries { length rows.old ≡ open_bytes }
     requires moments { length moments.now ≡ max_events }
     requires events { length events.now ≡ waiting_bytes }
@@ -301,50 +233,44 @@ fn open_after(
         → HeadOf D head.now → GroundsFit D gs → EventsFit D es → length gs ≤ max_running → length es ≤ max_events
         → record { count = n; rows = rows.old } ≡ open_of gs
         → record { count = count; moments = moments.now; rows = events.now } ≡ waiting_of es
-        → (result.fits ≡ leb (length (close_all es gs ++ opened_by D es)) max_running)
-        × (result.fits ≡ true → record { count = result.count; rows = rows.new } ≡ open_of (close_all es gs ++ opened_by D es)) }
+        → (is_some result ≡ leb (length (close_all es gs ++ opened_by D es)) max_running)
+        × ((m : ℕ) → result ≡ Some m → record { count = m; rows = rows.new } ≡ open_of (close_all es gs ++ opened_by D es)) }
 {
-    if MAX_EVENTS < count {
-        return Joined {
-            fits: false,
-            count: n,
-        };
+    if MAX_EVENTS < count || MAX_RUNNING < n {
+        return None;
     }
-    if MAX_RUNNING < n {
-        return Joined {
-            fits: false,
-            count: n,
-        };
-    }
-    let left = close_all(rows, n, moments, events, count);
-    join_all(head, rows, left, moments, events, count)
+    let waiting = Waiting {
+        moments,
+        rows: events,
+        count,
+    };
+    let left = close_all(rows, n, &waiting);
+    join_all(head, rows, left, &waiting)
 }
 
-// The agenda after a step: ends are removed, starts of lasting actions are added, and no event waits. Where the entries do not fit, it is
-// as it was: they are worked out beside it.
-pub fn agenda_after(head: &Head, agenda: &mut [u8], opened: usize, waits: usize) -> Joined
+// The agenda after a step: ends are removed, starts of lasting actions are added, and no event waits; the count of entries, where they fit.
+// Where they do not, it is as it was: they are worked out beside it.
+pub fn agenda_after(head: &Head, agenda: &mut [u8], opened: usize, waits: usize) -> Option<usize>
     requires { length agenda.old ≡ agenda_bytes }
     ensures joined { (D : Domain) (gs : List GroundAction) (es : List Event)
         → HeadOf D head.now → GroundsFit D gs → EventsFit D es → length gs ≤ max_running → length es ≤ max_events
         → agenda_open opened agenda.old ≡ open_of gs → agenda_waiting waits agenda.old ≡ waiting_of es
-        → (result.fits ≡ leb (length (close_all es gs ++ opened_by D es)) max_running)
-        × (result.fits ≡ true → agenda_open result.count agenda.new ≡ open_of (close_all es gs ++ opened_by D es)) }
-    ensures waits { result.fits ≡ true → agenda_waiting 0 agenda.new ≡ waiting_of [] }
-    ensures refused { result.fits ≡ false → agenda.new ≡ agenda.old }
+        → (is_some result ≡ leb (length (close_all es gs ++ opened_by D es)) max_running)
+        × ((n : ℕ) → result ≡ Some n → agenda_open n agenda.new ≡ open_of (close_all es gs ++ opened_by D es)) }
+    ensures waits { (n : ℕ) → result ≡ Some n → agenda_waiting 0 agenda.new ≡ waiting_of [] }
+    ensures refused { result ≡ None → agenda.new ≡ agenda.old }
 {
     let mut rows = [0u8; OPEN_ROWS];
-    put_bytes(&mut rows, 0, &agenda[0..OPEN_ROWS]);
-    let joined = open_after(
+    rows.copy_from_slice(&agenda[0..OPEN_ROWS]);
+    let count = open_after(
         head,
         &mut rows,
         opened,
         &agenda[MOMENTS_AT..EVENTS_AT],
         &agenda[EVENTS_AT..AGENDA],
         waits,
-    );
-    if joined.fits {
-        put_bytes(&mut agenda[0..OPEN_ROWS], 0, &rows);
-        put_zeros(&mut agenda[MOMENTS_AT..AGENDA], 0, WAITING);
-    }
-    joined
+    )?;
+    agenda[0..OPEN_ROWS].copy_from_slice(&rows);
+    agenda[MOMENTS_AT..AGENDA].fill(0);
+    Some(count)
 }

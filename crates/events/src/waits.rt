@@ -8,7 +8,6 @@ ghost use Rattle.events.specs.Held.{agenda_bytes, entries_in, agenda_waiting, gr
 ghost use Rattle.run_semantics.specs.RunFile.{max_events};
 
 use super::{AGENDA, EVENTS_AT, GROUND, MOMENTS_AT};
-use records::bytes::put_bytes;
 
 // One event more, behind the first n that wait.
 pub fn wait(agenda: &mut [u8], n: usize, moment: u8, act: [u8; GROUND])
@@ -20,5 +19,7 @@ pub fn wait(agenda: &mut [u8], n: usize, moment: u8, act: [u8; GROUND])
         → agenda_waiting (n + 1) agenda.new ≡ waiting_of (es ++ (e ∷ [])) }
 {
     agenda[MOMENTS_AT + n] = moment;
-    put_bytes(&mut agenda[EVENTS_AT..AGENDA], GROUND * n, &act);
+    let rows = &mut agenda[EVENTS_AT..AGENDA];
+    let at = GROUND * n;
+    rows[at..at + GROUND].copy_from_slice(&act);
 }

@@ -86,7 +86,7 @@ pub extern "C" fn goadlotus_play(
 }
 
 // Plays a run file on a domain file with an instance, a byte for each of its objects: answers and leaves what goadlotus_play does, and
-// the instance's total after the last step made.
+// the instance's total after the last step made. (C has no generic calls: so it stands beside goadlotus_play.)
 #[unsafe(no_mangle)]
 pub extern "C" fn goadlotus_track(
     domain: &[u8],

@@ -9,8 +9,8 @@ use native.Mathlib.Numerals.{add-one}
 use native.Mathlib.Nat.{add-zero}
 use native.Mathlib.Omega.{arith}
 use lib.Dec.{eqb}
-use lib.ListN.{length, get_or, take, drop, set, length-set, length-map, length-append, drop_of_length-le}
-use lib.Seq.{drop-cons, take_all, take_at, get_or-set_same, get_or-set_other}
+use lib.ListN.{length, get_or, take, drop, set, length-set, length-map, length-append, length-drop, drop_of_length-le}
+use lib.Seq.{drop-cons, drop-drop, drop_at, take_all, take_at, take-add, take-take, length-take-le, get_or-set_same, get_or-set_other}
 use borrow.Author.Tests.{eqb-true, eqb-false}
 use Rattle.records.specs.Lists.{In, add_if, count_by, any, all, same_list}
 use Rattle.records.proofs.Lists.{and_l, and_r, all_of, bool_cases, clash, get_d_in, count_not, count_none, in_flat_map}
@@ -371,6 +371,38 @@ entry_more f gs i found w h e =
 
 pub entries_end : (f : GroundAction → ℕ) (gs : List GroundAction) (i found : ℕ) → length gs ≤ i → found + sum_of f (drop i gs) ≡ found
 entries_end f gs i found h = ap (λ (t : List GroundAction). found + sum_of f t) (drop_of_length-le gs h) ∙ add-zero found
+
+-- ---- entries one behind the other, 17 bytes each: of the first n those from i on are left
+
+module _ (entries : List ℕ) (n i : ℕ) (left : List ℕ) (room : 17 * n ≤ length entries) (reach : i ≤ n)
+    (e : left ≡ drop (17 * i) (take (17 * n) entries)) where
+  left_length : length left ≡ 17 * n - 17 * i
+  left_length = ap length e ∙ length-drop (17 * i) (take (17 * n) entries) ∙ ap (λ (k : ℕ). k - 17 * i) (length-take-le (17 * n) entries room)
+
+  pub entries_done : length left < 17 → i ≡ n
+  entries_done h = let l = left_length in omega arith
+
+  module _ (act next : List ℕ) (f : left ≡ act ++ next) (s : length act ≡ 17) where
+    pub entry_left : i < n
+    entry_left = let l = left_length in let k = ap length f ∙ length-append act next in omega arith
+
+    pub entry_next : next ≡ drop (17 * (i + 1)) (take (17 * n) entries)
+    entry_next =
+        let z : 17 * i + 17 ≡ 17 * (i + 1) = omega arith in
+        sym (drop_at act next 17 s)
+        ∙ ap (drop 17) (sym f ∙ e)
+        ∙ drop-drop 17 (17 * i) (take (17 * n) entries)
+        ∙ ap (λ (k : ℕ). drop k (take (17 * n) entries)) z
+
+    pub entry_bytes : act ≡ take 17 (drop (17 * i) entries)
+    entry_bytes =
+        let h = entry_left in
+        let z : 17 * n ≡ 17 * i + (17 * n - 17 * i) = omega arith in
+        let t = length-take-le (17 * i) entries (omega arith) in
+        sym (take_at act next 17 s)
+        ∙ ap (take 17) (sym f ∙ e ∙ ap (drop (17 * i)) (ap (λ (k : ℕ). take k entries) z ∙ take-add (17 * i) (17 * n - 17 * i) entries)
+        ∙ drop_at (take (17 * i) entries) (take (17 * n - 17 * i) (drop (17 * i) entries)) (17 * i) t)
+        ∙ take-take 17 (17 * n - 17 * i) (drop (17 * i) entries) (omega arith)
 
 -- ---- a part of a memory that was lent, lent again
 

@@ -25,18 +25,17 @@ ghost use Rattle.journeys.specs.Held.{journey_mark};
 
 use classes::names::{is_journey, note_soles, sole_in, usages_at};
 use classes::number::number_classes;
-use classes::{AT_END, AT_START, Marks, Soles};
+use classes::{AT_END, AT_START, Count, Marks, Soles};
 use events::facts::bound_row;
 use events::{GROUND, MOMENTS_AT};
 use literals::Moment;
 use literals::head::{Head, actions_in, is_lasting, keys_in, rows_of};
-use literals::keys::{KEY_PLACES, put_places};
+use literals::key_places::Places;
 use literals::limits::{MAX_LITERALS, MAX_RUNNING};
-use records::bytes::{put_bytes, wide};
 use store::weighing::{weigh, weight_at};
 
 // The mark of a class of a lasting action, by the usages of its literals at the start and by what its classes have at both moments: 0
-// where it is no journey, k + 1 where its true condition at the start is the literal k.
+// where it is no journey, k + 1 where its true condition at the start is the literal k: the byte that stands in `Marks`.
 fn mark_of(rows: &[u8], numbers: &[u8], usages: &Marks, soles: &Soles, class: usize) -> u8
     requires sides { Sides rows.now numbers.now }
     requires class { class < max_literals }
@@ -47,9 +46,12 @@ fn mark_of(rows: &[u8], numbers: &[u8], usages: &Marks, soles: &Soles, class: us
         → class < length (classes D a) → result ≡ journey_mark D a class }
 {
     let start = sole_in(soles, AT_START, class);
+    let Count::One(condition) = start.conditions else {
+        return 0;
+    };
     let end = sole_in(soles, AT_END, class);
     if is_journey(rows, numbers, usages, start, end, class as u8) {
-        return start.conditions;
+        return condition + 1;
     }
     0
 }
@@ -85,14 +87,13 @@ fn belongs_by(head: &Head, rows: &[u8], mark: u8, act: &[u8], row: [u8; 8]) -> u
         → let x = get_or (classes D (action D g.action)) class [] in
         result ≡ add_if (journey D (action D g.action) x && same_list same_object (bind_tuple g.binding x) y) 0 }
 {
-    let k = wide(mark);
-    if k == 0 {
+    let Some(literal) = usize::from(mark).checked_sub(1) else {
+        return 0;
+    };
+    if rows.len() < 8 * (literal + 1) {
         return 0;
     }
-    if rows.len() < 8 * k {
-        return 0;
-    }
-    let fact = bound_row(head, act, rows, 8 * (k - 1));
+    let fact = bound_row(head, act, rows, 8 * literal);
     weight_at(head, &fact, 0, row)
 }
 
@@ -116,8 +117,8 @@ fn count_marked(
         → result ≡ journeys_for D y g }
 {
     let mut found: usize = 0;
-    for class in 0..count {
-        found += belongs_by(head, rows, marks[class], act, row);
+    for mark in &marks[..count] {
+        found += belongs_by(head, rows, *mark, act, row);
     }
     found
 }
@@ -133,11 +134,10 @@ fn journeys_of(head: &Head, rows: &[u8], n: usize, act: &[u8], row: [u8; 8]) -> 
         → GroundFits D g → act.now ≡ ground_row g → length y ≡ keys_of D.template → row ≡ row_of (object_numbers y)
         → result ≡ journeys_for D y g }
 {
-    let mut places = [0u8; KEY_PLACES];
-    put_places(head, &mut places);
+    let places = Places::of(head);
     let mut numbers = [0u8; MAX_LITERALS];
     let mut words = [0u64; MAX_LITERALS];
-    let count = number_classes(head, &places, rows, &mut numbers[0..n], &mut words);
+    let count = number_classes(&places, rows, &mut numbers[0..n], &mut words);
     let mut marks = [0u8; MAX_LITERALS];
     mark_journeys(rows, &numbers[0..n], count, &mut marks);
     count_marked(head, rows, &marks, count, act, row)
@@ -152,7 +152,7 @@ fn entry_journeys(head: &Head, table: &[u8], act: &[u8], row: [u8; 8]) -> usize
         → act.now ≡ ground_row g → length y ≡ keys_of D.template → row ≡ row_of (object_numbers y)
         → result ≡ journeys_for D y g }
 {
-    let action = wide(act[0]);
+    let action = usize::from(act[0]);
     if actions_in(head) <= action {
         return 0;
     }
@@ -160,9 +160,13 @@ fn entry_journeys(head: &Head, table: &[u8], act: &[u8], row: [u8; 8]) -> usize
         return 0;
     }
     let span = rows_of(head, table, action);
-    let from = 8 * span.from;
-    let to = 8 * span.to;
-    journeys_of(head, &table[from..to], span.to - span.from, act, row)
+    journeys_of(
+        head,
+        &table[8 * span.from..8 * span.to],
+        span.to - span.from,
+        act,
+        row,
+    )
 }
 
 // How many journeys of the first n open entries belong to the instance.
@@ -176,10 +180,8 @@ fn open_journeys(head: &Head, table: &[u8], entries: &[u8], n: usize, row: [u8; 
         → result ≡ foldr (λ g m. journeys_for D y g + m) 0 gs }
 {
     let mut found: usize = 0;
-    for i in 0..n {
-        let at = GROUND * i;
-        let end = at + GROUND;
-        found += entry_journeys(head, table, &entries[at..end], row);
+    for act in entries[..GROUND * n].chunks_exact(GROUND) {
+        found += entry_journeys(head, table, act, row);
     }
     found
 }
@@ -190,7 +192,7 @@ fn instance_row(instance: &[u8]) -> [u8; 8]
     ensures { result ≡ row_of instance.now }
 {
     let mut row = [255u8; 8];
-    put_bytes(&mut row, 0, instance);
+    row[..instance.len()].copy_from_slice(instance);
     row
 }
 

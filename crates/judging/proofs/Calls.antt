@@ -226,25 +226,27 @@ pub writes_above : (D : Domain) (n : ℕ) → 42 < n → writes_witness D n ≡ 
 unfolding writes_witness
 writes_above D n h = rw (le-leb 40 n (omega arith), lt-leb n 42 h)
 
-pub writes_at : (D : Domain) {j : Judgement} {r : Bool} → j ≡ judgement_of (decided D) → 40 ≤ j.number → j.number ≤ 42
+pub writes_at : (D : Domain) {j : Judgement} {r : Bool} {m : Moment} → j ≡ judgement_of (decided D) → 40 ≤ j.number → j.number ≤ 42 → m ≡ moment_by j.third
     → (j.first < length D.actions → j.second < length (classes D (action D j.first))
-    → r ≡ shown_at D (action D j.first) (get_or (classes D (action D j.first)) j.second []) (moment_by j.third))
+    → r ≡ shown_at D (action D j.first) (get_or (classes D (action D j.first)) j.second []) m)
     → r ≡ writes_witness D j.number
 unfolding class_at writes_witness
-writes_at D {j} is lo hi s =
+writes_at D {j} is lo hi e s =
     let p = judged_placed D is lo hi in
-    s p.action_listed p.class_listed ∙ sym p.written ∙ sym (rw (le-leb 40 j.number lo, le-leb j.number 42 hi) refl)
+    s p.action_listed p.class_listed
+    ∙ ap (shown_at D (action D j.first) (get_or (classes D (action D j.first)) j.second [])) e
+    ∙ sym p.written ∙ sym (rw (le-leb 40 j.number lo, le-leb j.number 42 hi) refl)
 
 -- what showing the place of a refusal by 40 to 42 leaves
-pub showing_of : (D : Domain) (wit : List ℕ) {j : Judgement} {r : Bool} {out : List ℕ} → j ≡ judgement_of (decided D) → writes_witness D j.number ≡ true
-    → (j.first < length D.actions → RefusedAt D (action D j.first) j.second (moment_by j.third) j.number
-    → ShownAt D (action D j.first) j.second (moment_by j.third) wit out r)
+pub showing_of : (D : Domain) (wit : List ℕ) {j : Judgement} {r : Bool} {m : Moment} {out : List ℕ} → j ≡ judgement_of (decided D) → writes_witness D j.number ≡ true
+    → m ≡ moment_by j.third
+    → (j.first < length D.actions → RefusedAt D (action D j.first) j.second m j.number → ShownAt D (action D j.first) j.second m wit out r)
     → (r ≡ fits_in (witness D) wit) × (out ≡ shown_in (witness D) wit)
 unfolding class_at writes_witness
-showing_of D wit {j} is w h =
+showing_of D wit {j} {r} {m} {out} is w e h =
     let in-range = and_l (leb 40 j.number && leb j.number 42) (is_shown D) w in
     let lo = leb-true 40 j.number (and_l (leb 40 j.number) (leb j.number 42) in-range) in
     let hi = leb-true j.number 42 (and_r (leb 40 j.number) (leb j.number 42) in-range) in
     let p = judged_placed D is lo hi in
-    let l = h p.action_listed (record { listed = p.class_listed; journey_end = p.ended; fault = p.fault; refused = λ z. omega arith }) in
+    let l = subst (λ (m : Moment). RefusedAt D (action D j.first) j.second m j.number → ShownAt D (action D j.first) j.second m wit out r) e (h p.action_listed) (record { listed = p.class_listed; journey_end = p.ended; fault = p.fault; refused = λ z. omega arith }) in
     (l.fits ∙ ap (λ (fs : List Fact). fits_in fs wit) (sym p.shown), l.bytes ∙ ap (λ (fs : List Fact). shown_in fs wit) (sym p.shown))

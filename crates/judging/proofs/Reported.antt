@@ -4,10 +4,10 @@ use mathlib.Core.Bool.{true, false}
 use mathlib.Core.List.{List, [], ◌∷◌, ◌++◌, flat_map, map-append, append-nil, append_assoc}
 use Prim.Native.Nat.{ℕ, ◌+◌, ◌*◌, ◌≤◌, ◌<◌}
 use native.Mathlib.Omega.{arith}
-use lib.ListN.{length, get_or, set, take, drop, length-append, length-map, drop_of_length-le, get_or-map}
-use lib.Seq.{get_or_at, take_all}
+use lib.ListN.{length, get_or, take, drop, length-append, length-map, drop_of_length-le, get_or-map}
+use lib.Seq.{get_or_at, take_all, paste}
 use Rattle.records.specs.Memory.{over}
-use Rattle.records.proofs.Memory.{length_over, over_more}
+use Rattle.records.proofs.Memory.{length_over, over_paste}
 use Rattle.literals.specs.declared.Variable.{Variable}
 use Rattle.literals.specs.Domain.{Action, Domain, no_action, action}
 use Rattle.literals.specs.Held.{pad, lasting_in, HeadOf}
@@ -39,16 +39,6 @@ pub length_row_bytes : (rs : List Row) → length (row_bytes rs) ≡ 4 * length 
 unfolding row_bytes
 length_row_bytes [] = refl
 length_row_bytes (r ∷ rs) = let h = length_row_bytes rs in omega arith
-
--- four stores at the seam
-over_four : (new old : List ℕ) (k a b c d : ℕ) → length new ≡ k → k + 4 ≤ length old
-    → set (set (set (set (over new old) k a) (k + 1) b) (k + 2) c) (k + 3) d ≡ over (new ++ (a ∷ b ∷ c ∷ d ∷ [])) old
-over_four new old k a b c d e h =
-    ap (λ (l : List ℕ). set (set (set l (k + 1) b) (k + 2) c) (k + 3) d) (over_more new old k a e (omega arith))
-    ∙ ap (λ (l : List ℕ). set (set l (k + 2) c) (k + 3) d) (over_more (new ++ (a ∷ [])) old (k + 1) b (length-append new (a ∷ []) ∙ ap (λ (n : ℕ). n + 1) e) (omega arith))
-    ∙ ap (λ (l : List ℕ). set l (k + 3) d) (over_more ((new ++ (a ∷ [])) ++ (b ∷ [])) old (k + 2) c (simp length-append (omega arith)) (omega arith))
-    ∙ over_more (((new ++ (a ∷ [])) ++ (b ∷ [])) ++ (c ∷ [])) old (k + 3) d (simp length-append (omega arith)) (omega arith)
-    ∙ ap (λ (l : List ℕ). over l old) (simp append_assoc)
 
 -- ---- one row
 
@@ -91,15 +81,16 @@ module _ {rs rest : List Row} {r : Row} {at : ℕ} {report names old given : Lis
       ∙ get_or_at (name_bytes rs) (name_number r.name) (name_bytes rest ++ drop (length (name_bytes (rs ++ (r ∷ rest)))) given) 0 at
       (length-map rs (λ (r : Row). name_number r.name) ∙ sym R.written)
 
-  pub reporting_more : {a b m : ℕ} → a ≡ r.action → b ≡ r.class → m ≡ moment_number r.moment
-      → Reporting (rs ++ (r ∷ [])) rest (at + 1) (set (set (set (set report (4 * at) a) (4 * at + 1) b) (4 * at + 2) m) (4 * at + 3) (get_or names at 0)) names old given
-  reporting_more {a} {b} {m} ea eb em =
+  pub reporting_more : {a b m : ℕ} {report₁ : List ℕ} → a ≡ r.action → b ≡ r.class → m ≡ moment_number r.moment
+      → report₁ ≡ paste report (4 * at) (a ∷ b ∷ m ∷ get_or names at 0 ∷ []) 4 → Reporting (rs ++ (r ∷ [])) rest (at + 1) report₁ names old given
+  reporting_more {a} {b} {m} ea eb em e =
       let z = append_assoc rs (r ∷ []) rest in
       record {
         written = let k = R.written in let l = length-append rs (r ∷ []) in omega arith;
         bytes =
-            (λ i. set (set (set (set (R.bytes i) (4 * at) (ea i)) (4 * at + 1) (eb i)) (4 * at + 2) (em i)) (4 * at + 3) (name_given i))
-            ∙ over_four (row_bytes rs) old (4 * at) r.action r.class (moment_number r.moment) (name_number r.name) (length_row_bytes rs ∙ ap (λ (n : ℕ). 4 * n) (sym R.written)) rows_room
+            e
+            ∙ (λ i. paste (R.bytes i) (4 * at) (ea i ∷ eb i ∷ em i ∷ name_given i ∷ []) 4)
+            ∙ over_paste (row_bytes rs) old (one_row r) (4 * at) 4 (length_row_bytes rs ∙ ap (λ (n : ℕ). 4 * n) (sym R.written)) refl
             ∙ ap (λ (l : List ℕ). over l old) (sym (row_bytes_more rs r));
         named = R.named ∙ ap (λ (l : List Row). over (name_bytes l) given) (sym z);
         room = rw z R.room;

@@ -3,10 +3,10 @@
 
 pub mod report;
 
-ghost use Rattle.std.specs.Prelude.{◌≡◌, true, List, ℕ, ◌*◌, ◌≤◌, length};
+ghost use Rattle.std.specs.Prelude.{◌≡◌, ◌⊎◌, true, List, ℕ, ◌*◌, ◌≤◌, length};
 ghost use Rattle.records.specs.Memory.{over};
 ghost use Rattle.literals.specs.Domain.{Domain};
-ghost use Rattle.literals.specs.Decode.{decode, domain as domainRead};
+ghost use Rattle.literals.specs.Decode.{decode, domain as domainRead, max_literals, max_actions};
 ghost use Rattle.literals.specs.Held.{Held, Read};
 ghost use Rattle.classes.specs.Held.{numbers_of};
 ghost use Rattle.reading.specs.Held.{EnoughTable};
@@ -30,16 +30,24 @@ const SOME: usize = 160;
 
 const MANY: usize = 768;
 
-fn at_offset(number: u64, place: usize) -> Judgement
-    ensures { result ≡ judgement_of (answer_at number place) }
-{
-    Judgement {
-        number,
-        first: place as u64,
-        second: 0,
-        third: 0,
-    }
-}
+const ALL: usize = MAX_LITERALS * MAX_ACTIONS;
+
+// The lengths of their memories: 8 bytes a literal in the table, and two names.
+const FEW_ROWS: usize = 8 * FEW;
+
+const SOME_ROWS: usize = 8 * SOME;
+
+const MANY_ROWS: usize = 8 * MANY;
+
+const ALL_ROWS: usize = 8 * ALL;
+
+const FEW_NAMES: usize = 2 * FEW;
+
+const SOME_NAMES: usize = 2 * SOME;
+
+const MANY_NAMES: usize = 2 * MANY;
+
+const ALL_NAMES: usize = 2 * ALL;
 
 // Whether the decision of a domain that was read comes with a witness: 40 to 42 do, but not at an end whose class has an over-all literal.
 fn has_witness(head: &Head, table: &[u8], numbers: &[u8], made: Judgement) -> bool
@@ -48,21 +56,15 @@ fn has_witness(head: &Head, table: &[u8], numbers: &[u8], made: Judgement) -> bo
         → numbers.now ≡ over (numbers_of D D.actions) old → made ≡ judgement_of (decided D)
         → result ≡ writes_witness D made.number }
 {
-    let number = made.number;
-    if number < 40 {
-        return false;
-    }
-    if 42 < number {
-        return false;
-    }
-    is_shown(
-        head,
-        table,
-        numbers,
-        made.first as usize,
-        made.second as usize,
-        made.third,
-    )
+    matches!(made.number, 40..=42)
+        && is_shown(
+            head,
+            table,
+            numbers,
+            made.first as usize,
+            made.second as usize,
+            made.moment(),
+        )
 }
 
 // Judges a domain that was read; `numbers` is room for a byte a literal, and `names` for a byte a moment.
@@ -83,26 +85,22 @@ fn judge_with(
     let mut counts = [0u8; MAX_ACTIONS];
     let naming = name_all(head, table, numbers, names, &mut counts);
     if report.len() < 4 * naming.rows {
-        return at_offset(30, 0);
+        return Judgement::at(30, 0);
     }
-    let notes = naming.notes;
-    let decided = notes.decide();
-    let number = decided.number;
-    if has_witness(head, table, numbers, decided) {
-        if show(
+    let decided = naming.notes.decide();
+    if has_witness(head, table, numbers, decided)
+        && !show(
             head,
             table,
             numbers,
             decided.first as usize,
             decided.second as usize,
-            decided.third,
-            number,
+            decided.moment(),
+            decided.number,
             witness,
-        ) {
-            put_report(head, &counts, names, report);
-            return decided;
-        }
-        return at_offset(31, 0);
+        )
+    {
+        return Judgement::at(31, 0);
     }
     put_report(head, &counts, names, report);
     decided
@@ -124,12 +122,29 @@ fn judge_in(
         result report.new witness.new }
 {
     let mut head = [0u8; HEAD];
-    let read = read_domain(&file[..], &mut head, table);
-    let number = read.number;
-    if number != 0 {
-        return at_offset(number, read.place);
+    if let Err(refusal) = read_domain(file, &mut head, table) {
+        return Judgement::at(refusal.fault.number(), refusal.place as u64);
     }
     judge_with(&head, table, numbers, names, report, witness)
+}
+
+// Judges a file in memories of these lengths: the table's, the numbers' and the names'.
+fn judge_sized<const ROWS: usize, const NUMBERS: usize, const NAMES: usize>(
+    file: &[u8],
+    report: &mut [u8],
+    witness: &mut [u8],
+) -> Judgement
+    requires enough { (NUMBERS ≡ max_literals * max_actions) ⊎ (length file.now ≤ 6 * NUMBERS) }
+    requires few { NUMBERS ≤ max_literals * max_actions }
+    requires rows { ROWS ≡ 8 * NUMBERS }
+    requires names { NAMES ≡ 2 * NUMBERS }
+    ensures { JudgedAs (decode file.now) report.old witness.old
+        result report.new witness.new }
+{
+    let mut table = [0u8; ROWS];
+    let mut numbers = [0u8; NUMBERS];
+    let mut names = [0u8; NAMES];
+    judge_in(file, &mut table, &mut numbers, &mut names, report, witness)
 }
 
 // Judges a file of any length. A small one gets small memories, since clearing large ones takes longer than judging it.
@@ -138,55 +153,14 @@ fn judge_file(file: &[u8], report: &mut [u8], witness: &mut [u8]) -> Judgement
         result report.new witness.new }
 {
     if file.len() <= 6 * FEW {
-        let mut table = [0u8; 8 * FEW];
-        let mut numbers = [0u8; FEW];
-        let mut names = [0u8; 2 * FEW];
-        return judge_in(
-            &file[..],
-            &mut table,
-            &mut numbers,
-            &mut names,
-            report,
-            witness,
-        );
+        judge_sized::<FEW_ROWS, FEW, FEW_NAMES>(file, report, witness)
+    } else if file.len() <= 6 * SOME {
+        judge_sized::<SOME_ROWS, SOME, SOME_NAMES>(file, report, witness)
+    } else if file.len() <= 6 * MANY {
+        judge_sized::<MANY_ROWS, MANY, MANY_NAMES>(file, report, witness)
+    } else {
+        judge_sized::<ALL_ROWS, ALL, ALL_NAMES>(file, report, witness)
     }
-    if file.len() <= 6 * SOME {
-        let mut table = [0u8; 8 * SOME];
-        let mut numbers = [0u8; SOME];
-        let mut names = [0u8; 2 * SOME];
-        return judge_in(
-            &file[..],
-            &mut table,
-            &mut numbers,
-            &mut names,
-            report,
-            witness,
-        );
-    }
-    if file.len() <= 6 * MANY {
-        let mut table = [0u8; 8 * MANY];
-        let mut numbers = [0u8; MANY];
-        let mut names = [0u8; 2 * MANY];
-        return judge_in(
-            &file[..],
-            &mut table,
-            &mut numbers,
-            &mut names,
-            report,
-            witness,
-        );
-    }
-    let mut table = [0u8; 8 * MAX_LITERALS * MAX_ACTIONS];
-    let mut numbers = [0u8; MAX_LITERALS * MAX_ACTIONS];
-    let mut names = [0u8; 2 * MAX_LITERALS * MAX_ACTIONS];
-    judge_in(
-        &file[..],
-        &mut table,
-        &mut numbers,
-        &mut names,
-        report,
-        witness,
-    )
 }
 
 // Judges a domain file, with demand 3 of the answer: an accepted template is safe for every catalogue and every run; where no action
@@ -201,5 +175,5 @@ pub fn judge(file: &[u8], report: &mut [u8], witness: &mut [u8]) -> Judgement
     ensures exact { RefusedHarmful file.now result.number }
     ensures shown { WitnessHarms file.now result.number witness.new result.first result.second result.third }
 {
-    judge_file(&file[..], report, witness)
+    judge_file(file, report, witness)
 }

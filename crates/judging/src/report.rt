@@ -5,31 +5,27 @@ ghost use Rattle.literals.specs.declared.Variable.{Variable};
 ghost use Rattle.literals.specs.Domain.{Action, Domain};
 ghost use Rattle.literals.specs.Decode.{max_actions};
 ghost use Rattle.literals.specs.Held.{pad, HeadOf};
-ghost use Rattle.literals.specs.Matching.{moment_number};
 ghost use Rattle.classes.specs.Classes.{moments_of};
 ghost use Rattle.verdict.specs.Decision.{Row, row_at, rows_of_classes, rows};
 ghost use Rattle.verdict.specs.Judged.{row_bytes};
 ghost use Rattle.naming.specs.Held.{name_bytes, class_counts};
 ghost use Rattle.judging.specs.Held.{Reporting};
 
+use literals::Moment;
 use literals::head::{Head, actions_in, is_lasting};
 use naming::ClassCounts;
 
 // One row at a place, with the name that is stored for it. (Both memories have room for the rows of every domain; the tests are there for
 // the proof alone.)
-fn put_moment(report: &mut [u8], at: usize, action: u8, class: u8, moment: u8, names: &[u8])
+fn put_moment(report: &mut [u8], at: usize, action: u8, class: u8, moment: Moment, names: &[u8])
     ensures { (rs rest : List Row) (r : Row) (old given : List ℕ)
         → Reporting rs (r ∷ rest) at report.old names.now old given
-        → action ≡ r.action → class ≡ r.class → moment ≡ moment_number r.moment
+        → action ≡ r.action → class ≡ r.class → moment ≡ r.moment
         → Reporting (rs ++ (r ∷ [])) rest (at + 1) report.new names.now old given }
 {
-    if at < names.len() {
-        if at < report.len() / 4 {
-            report[4 * at] = action;
-            report[4 * at + 1] = class;
-            report[4 * at + 2] = moment;
-            report[4 * at + 3] = names[at];
-        }
+    if at < names.len() && at < report.len() / 4 {
+        let row = [action, class, u8::from(moment), names[at]];
+        report[4 * at..4 * at + 4].copy_from_slice(&row);
     }
 }
 
@@ -48,9 +44,9 @@ fn put_class(
         → Reporting rs (map (row_at D a action class x) (moments_of a) ++ rest) at report.old names.now old given
         → Reporting (rs ++ map (row_at D a action class x) (moments_of a)) rest result report.new names.now old given }
 {
-    put_moment(report, at, action, class, 0, names);
+    put_moment(report, at, action, class, Moment::Start, names);
     if lasting {
-        put_moment(report, at + 1, action, class, 1, names);
+        put_moment(report, at + 1, action, class, Moment::End, names);
         return at + 2;
     }
     at + 1

@@ -8,8 +8,10 @@ use Prim.Native.Nat.{ℕ, ◌<◌}
 use native.Mathlib.Omega.{arith}
 use lib.Dec.{eqb, ltb, leb}
 use lib.ListN.{length, drop, replicate}
-use borrow.Author.Tests.{eqb-true, eqb-false, ne_eqb, le-leb, lt-leb}
+use borrow.Author.Tests.{eqb-true, ne_eqb, le-leb}
+use Rattle.std.specs.List.{count_by as library_count}
 use Rattle.records.specs.Lists.{In, count_by, same_list}
+use Rattle.records.proofs.Chains.{count_is}
 use Rattle.records.proofs.Lists.{or_l, or_cases, not_true, clash, eqb_same, eqb_comm, same_list_self, count_map}
 use Rattle.literals.specs.declared.Variable.{Variable}
 use Rattle.literals.specs.declared.Argument.{Argument}
@@ -109,16 +111,11 @@ module _ (p : List ℕ) {n : ℕ} (e : n ≡ count_by (eqb 255) (drop 2 p)) wher
   pub clears_none : n ≡ 0 → true ≡ clears_once (literal_of p)
   clears_none z = rw (clears_bytes p, ← e, z) (sym (le-leb 0 (cond (may_clear (role_of (byte p 0)).usage) 1 0) (omega arith)))
 
-  module _ (some : n ≡ 0 → ⊥) where
-    pub clears_may : may_clear (role_of (byte p 0)).usage ≡ true → eqb n 1 ≡ clears_once (literal_of p)
-    clears_may t = rw (clears_bytes p, ← e, t) (by (eqb n 1) refl)
-      where
-        by : (b : Bool) → eqb n 1 ≡ b → b ≡ leb n 1
-        by true q = let z = eqb-true n 1 q in sym (le-leb n 1 (omega arith))
-        by false q = sym (lt-leb n 1 (let z : (n ≡ 1 → ⊥) = eqb-false n 1 q in omega arith))
-
-    pub clears_not : may_clear (role_of (byte p 0)).usage ≡ false → false ≡ clears_once (literal_of p)
-    clears_not t = rw (clears_bytes p, ← e, t) (sym (lt-leb n 0 (omega arith)))
+-- how many arguments are FF, against how many may be
+pub clears_told : (p : List ℕ) {n most : ℕ} {may : Bool} → n ≡ library_count (eqb 255) (drop 2 p) → may ≡ may_clear (role_of (byte p 0)).usage
+    → most ≡ cond may 1 0 → leb n most ≡ clears_once (literal_of p)
+clears_told p e f g =
+    ap₂ leb (e ∙ sym (count_is (eqb 255) (drop 2 p))) (g ∙ ap (λ (b : Bool). cond b 1 0) f) ∙ sym (clears_bytes p)
 
 -- without FF, the numbers of arguments are those of their variables
 pub plain_numbers : (vs : List Argument) → count_by is_every vs ≡ 0 → map argument_number vs ≡ map (λ (v : Variable). v.0) (variables_of vs)

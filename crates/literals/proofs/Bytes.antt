@@ -1,61 +1,36 @@
 -- Laws for the checks of a record's fields: arguments, and labels as bytes. Assumes nothing.
 use mathlib.Core.Path.{◌≡◌, refl, sym, ap, ap₂, ◌∙◌}
 use mathlib.Core.Bool.{Bool, true, false, ◌&&◌, ◌||◌, not, cond}
-use mathlib.Core.Logic.{◌⊎◌, inl, inr}
 use mathlib.Core.List.{List, [], ◌∷◌, ◌++◌, map}
-use Prim.Native.Nat.{ℕ, zero, suc, ◌+◌, ◌≤◌, ◌<◌}
+use Prim.Native.Nat.{ℕ, zero, suc, ◌+◌, ◌-◌, ◌*◌, ◌≤◌, ◌<◌}
 use native.Mathlib.Numerals.{add-one}
 use native.Mathlib.Omega.{arith}
 use lib.Dec.{eqb, ltb, leb}
 use lib.ListN.{length, take, drop, get_or, length-drop}
-use lib.Seq.{take-suc}
-use borrow.Author.Tests.{eq-eqb, ne_eqb, eqb-true, eqb-false, leb-true, leb-false, ltb-true, ltb-false, le-leb, lt-leb, lt-ltb, le-ltb}
-use Rattle.records.specs.Lists.{add_if, all, any, count_by, first_at, found}
-use Rattle.records.proofs.Lists.{and_l, and_r, and_i, bool_cases, or_out, not_false, off, clash, any_in, any_out, in_any, all_of, eqb_comm, any_map, any_same, filter_all, count_filter, count_pos, count_none, count_not, count_map, first_hit, first_miss, first_end}
-use Rattle.records.proofs.Numbers.{cond_or}
+use lib.Seq.{take-suc, drop-drop}
+use Rattle.std.proofs.lemmas.List.{drop-take}
+use borrow.Author.Tests.{ne_eqb, eqb-true, eqb-false, leb-true, leb-false, ltb-true, ltb-false, le-leb, lt-ltb, le-ltb}
+use Rattle.std.specs.Prelude.{Option, Some, None}
+use Rattle.std.specs.List.{count_by as library_count, position as place_of, zip}
+use Rattle.std.proofs.lemmas.List.Folds.{list_all-append}
+use Rattle.std.proofs.lemmas.List.FromFn.{length-range_with_len}
+use Rattle.records.specs.Lists.{add_if, all, any, count_by, first_at, found, position, numbers_from, below, side_by_side}
+use Rattle.records.proofs.Chains.{count_is, position_is}
+use Rattle.records.proofs.Lists.{and_l, and_r, and_i, or_out, not_false, off, clash, any_in, any_out, in_any, all_of, eqb_comm, any_map, any_same, filter_all, count_filter, count_pos, count_none, count_not, count_map, first_hit, first_miss, first_end}
 use Rattle.literals.specs.declared.Argument.TheVariants.{Variable as bound, Every}
 use Rattle.literals.specs.declared.Label.{Label}
 use Rattle.literals.specs.declared.Label.TheVariants.{Key as keyed, Counted}
 use Rattle.literals.specs.Domain.{variable, is_every, variable_below, key, is_key, is_counted, key_below, each_key_once, labels_fit}
 use Rattle.literals.specs.Domain.{clears_once}
-use Rattle.literals.specs.Decode.{byte, argument_of, literal_of, no_variable, label_of, counted_again, same_label_key, key_again, key_too_high}
+use Rattle.literals.specs.Decode.{argument_of, literal_of, no_variable, label_of, counted_again, same_label_key, key_again, key_too_high}
 use Rattle.literals.specs.Decode.{at_record, at_label, label_fault}
-use Rattle.literals.specs.Held.{relations_in, arity_in, lasting_in, arguments_stop, literal_shape, literal_arguments, again, high_key}
-use Rattle.literals.specs.Held.{keys_below, each_once, has_every}
-use Rattle.literals.proofs.Arguments.{clears_none}
+use Rattle.literals.specs.Held.{literal_arguments, again, high_key}
+use Rattle.literals.specs.Held.{keys_below, each_once, has_every, key_beside, may_stand, key_cleared_in, again_at, label_places, rows_in}
+use Rattle.literals.proofs.Arguments.{clears_none, beside_bytes}
 use Rattle.literals.proofs.Labels.{first_map, found_map}
+use Rattle.literals.proofs.Rows.{part_at}
 
--- ---- a relation that is known, and its arguments
-
-module _ (head : List ℕ) (relation first given : ℕ) where
-  pub unknown : relations_in head ≤ relation → arguments_stop head relation first given ≡ 17
-  unfolding arguments_stop
-  unknown k = simp (le-leb (relations_in head) relation k)
-
-  module _ (k : relation < relations_in head) where
-    pub misfit : (given ≡ first + arity_in head relation → ⊥) → arguments_stop head relation first given ≡ 12
-    unfolding arguments_stop
-    misfit e = simp (lt-leb (relations_in head) relation k, ne_eqb given (first + arity_in head relation) e)
-
-    pub fit : given ≡ first + arity_in head relation → arguments_stop head relation first given ≡ 0
-    unfolding arguments_stop
-    fit e = simp (lt-leb (relations_in head) relation k, eq-eqb given (first + arity_in head relation) e)
-
--- the shape of a literal by what the checks answer
-pub shape_told : (head : List ℕ) (i : ℕ) (p : List ℕ) {short role : Bool} {stop : ℕ} → ltb (length p) 2 ≡ short
-    → role ≡ (ltb 9 (byte p 0) || (ltb 3 (byte p 0) && not (lasting_in head i))) → stop ≡ arguments_stop head (byte p 1) 2 (length p)
-    → cond short 12 (cond role 16 stop) ≡ literal_shape head i p
-unfolding literal_shape
-shape_told head i p s r e =
-    rw (r, ← s, e)
-    (ap (cond (ltb (length p) 2) 12)
-    (cond_or (ltb 9 (byte p 0)) (ltb 3 (byte p 0) && not (lasting_in head i)) 16 (arguments_stop head (byte p 1) 2 (length p))))
-
--- and its arguments
-pub arguments_told : (n : ℕ) (p : List ℕ) {clears unknown : Bool} → clears ≡ clears_once (literal_of p) → unknown ≡ any (no_variable n) (drop 2 p)
-    → cond (not clears) 26 (cond unknown 18 0) ≡ literal_arguments n p
-unfolding literal_arguments
-arguments_told n p c u = rw (c, u)
+-- ---- arguments
 
 -- arguments below the number of variables are neither FF nor unknown
 below_plain : (n : ℕ) (bs : List ℕ) → n ≤ 255 → any (leb n) bs ≡ false
@@ -127,10 +102,29 @@ below_labels : (n : ℕ) (bs : List ℕ) → all (key_below n) (map label_of bs)
 below_labels n [] = refl
 below_labels n (b ∷ bs) = ap₂ ◌&&◌ (label_below n b) (below_labels n bs)
 
+-- each number below n once
+numbers_more : (a n : ℕ) → numbers_from a (suc n) ≡ numbers_from a n ++ ((a + n) ∷ [])
+numbers_more a zero = let z : a ≡ a + 0 = omega arith in ap {B = List ℕ} (λ (k : ℕ). k ∷ []) z
+numbers_more a (suc n) =
+    ap {B = List ℕ} (λ l. a ∷ l)
+    (numbers_more (a + 1) n ∙ (let z : a + 1 + n ≡ a + suc n = omega arith in ap (λ (k : ℕ). numbers_from (a + 1) n ++ (k ∷ [])) z))
+
+once_more : (n : ℕ) (bs : List ℕ) → each_once (suc n) bs ≡ (each_once n bs && eqb (count_by (eqb n) bs) 1)
+once_more n bs =
+    let t = λ (k : ℕ). eqb (library_count (eqb k) bs) 1 in
+    ap (all t) (numbers_more 0 n ∙ (let z : 0 + n ≡ n = omega arith in ap {B = List ℕ} (λ (k : ℕ). numbers_from 0 n ++ (k ∷ [])) z))
+    ∙ list_all-append t (numbers_from 0 n) (n ∷ [])
+    ∙ ap (λ (x : Bool). each_once n bs && x) (and-true (t n) ∙ ap (λ (m : ℕ). eqb m 1) (sym (count_is (eqb n) bs)))
+  where
+    and-true : (x : Bool) → (x && true) ≡ x
+    and-true true = refl
+    and-true false = refl
+
 once_labels : (n : ℕ) (bs : List ℕ) → n ≤ 255 → each_key_once n (map label_of bs) ≡ each_once n bs
 once_labels zero bs h = refl
 once_labels (suc n) bs h =
     ap₂ (λ (a : Bool) (m : ℕ). a && eqb m 1) (once_labels n bs (omega arith)) (count_map label_of (is_key (key n)) (eqb n) (label_key n (omega arith)) bs)
+    ∙ sym (once_more n bs)
 
 -- a second FF, and a key again, of the bytes
 counted_again_lem : (before : List ℕ) (b : ℕ) → counted_again (map label_of before) (label_of b) ≡ again true before b
@@ -178,43 +172,64 @@ label_fault_lem n bs =
       first_map label_of (key_too_high n) (high_key n) (high_key_lem n) [] bs,
     )
 
+-- the first place at which one passes a test of the ones before it and itself, if there is one
+abbrev pub first_place : (List ℕ → ℕ → Bool) → List ℕ → Option ℕ
+first_place q bs = cond (found q bs) (Some (first_at q [] bs)) None
+
 -- what the code's tests of the labels of a payload lead to, one after the other
 module _ (n : ℕ) (p : List ℕ) where
   abbrev labels : List ℕ
   labels = drop 1 p
 
-  found_is : (q : List ℕ → ℕ → Bool) {i : ℕ} → i ≡ 1 + first_at q [] labels → i < length p → found q labels ≡ true
-  found_is q e h = let d = length-drop 1 p in lt-ltb (first_at q [] labels) (length labels) (omega arith)
+  -- a label that is found, and none
+  found_is : (q : List ℕ → ℕ → Bool) {i : ℕ} → first_place q labels ≡ Some i → (found q labels ≡ true) × (i ≡ first_at q [] labels)
+  found_is q {i} e = go (found q labels) refl e
+    where
+      go : (b : Bool) → found q labels ≡ b → cond b (Some (first_at q [] labels)) None ≡ Some i → (found q labels ≡ true) × (i ≡ first_at q [] labels)
+      go true f e = (f, cc)
+      go false f e = cc
 
-  none_is : (q : List ℕ → ℕ → Bool) {i : ℕ} → i ≡ 1 + first_at q [] labels → length p ≤ i → length labels ≤ first_at q [] labels
-  none_is q e h = let d = length-drop 1 p in omega arith
+  none_found : (q : List ℕ → ℕ → Bool) → first_place q labels ≡ None → found q labels ≡ false
+  none_found q e = go (found q labels) refl e
+    where
+      go : (b : Bool) → found q labels ≡ b → cond b (Some (first_at q [] labels)) None ≡ None → found q labels ≡ false
+      go true f e = cc
+      go false f e = f
 
-  none_found : (q : List ℕ → ℕ → Bool) {i : ℕ} → i ≡ 1 + first_at q [] labels → length p ≤ i → found q labels ≡ false
-  none_found q e h = le-ltb (first_at q [] labels) (length labels) (none_is q e h)
+  -- a label that is found stands in the payload
+  pub found_within : (q : List ℕ → ℕ → Bool) {i : ℕ} → first_place q labels ≡ Some i → i + 1 < length p
+  found_within q {i} e =
+      let f = found_is q e in
+      let l = ltb-true (first_at q [] labels) (length labels) f.0 in
+      let d = length-drop 1 p in
+      let same = f.1 in
+      omega arith
 
-  at_place : (m : ℕ) (q : List ℕ → ℕ → Bool) {i : ℕ} → i ≡ 1 + first_at q [] labels → record { number = m; within = 4 + i } ≡ at_label m (first_at q [] labels)
-  at_place m q {i} e = let w : 4 + i ≡ 5 + first_at q [] labels = omega arith in λ j. record { number = m; within = w j }
+  at_place : (m : ℕ) (q : List ℕ → ℕ → Bool) {i : ℕ} → i ≡ first_at q [] labels → record { number = m; within = 5 + i } ≡ at_label m (first_at q [] labels)
+  at_place m q {i} e = ap (at_label m) e
 
-  pub second_counted : {i : ℕ} → i ≡ 1 + first_at (again true) [] labels → i < length p → record { number = 25; within = 4 + i } ≡ label_fault n (map label_of labels)
-  second_counted e h = at_place 25 (again true) e ∙ sym (label_fault_lem n labels ∙ rw (found_is (again true) e h))
+  pub second_counted : {i : ℕ} → first_place (again true) labels ≡ Some i → record { number = 25; within = 5 + i } ≡ label_fault n (map label_of labels)
+  second_counted e = let f = found_is (again true) e in at_place 25 (again true) f.1 ∙ sym (label_fault_lem n labels ∙ rw f.0)
 
-  module _ {i : ℕ} (counted : i ≡ 1 + first_at (again true) [] labels) (once : length p ≤ i) where
-    pub repeated_key : {j : ℕ} → j ≡ 1 + first_at (again false) [] labels → j < length p → record { number = 24; within = 4 + j } ≡ label_fault n (map label_of labels)
-    repeated_key e h = at_place 24 (again false) e ∙ sym (label_fault_lem n labels ∙ rw (none_found (again true) counted once, found_is (again false) e h))
+  module _ (counted : first_place (again true) labels ≡ None) where
+    pub repeated_key : {j : ℕ} → first_place (again false) labels ≡ Some j → record { number = 24; within = 5 + j } ≡ label_fault n (map label_of labels)
+    repeated_key e =
+        let f = found_is (again false) e in
+        at_place 24 (again false) f.1 ∙ sym (label_fault_lem n labels ∙ rw (none_found (again true) counted, f.0))
 
-    module _ {j : ℕ} (keys : j ≡ 1 + first_at (again false) [] labels) (apart : length p ≤ j) where
-      pub first_high : {k : ℕ} → k ≡ 1 + first_at (high_key n) [] labels → k < length p → record { number = 21; within = 4 + k } ≡ label_fault n (map label_of labels)
-      first_high e h =
-          at_place 21 (high_key n) e
-          ∙ sym (label_fault_lem n labels ∙ rw (none_found (again true) counted once, none_found (again false) keys apart, found_is (high_key n) e h))
+    module _ (keys : first_place (again false) labels ≡ None) where
+      pub first_high : {k : ℕ} → first_place (high_key n) labels ≡ Some k → record { number = 21; within = 5 + k } ≡ label_fault n (map label_of labels)
+      first_high e =
+          let f = found_is (high_key n) e in
+          at_place 21 (high_key n) f.1
+          ∙ sym (label_fault_lem n labels ∙ rw (none_found (again true) counted, none_found (again false) keys, f.0))
 
       -- no label is at fault: a key is missing
-      pub missing_key : {k : ℕ} → k ≡ 1 + first_at (high_key n) [] labels → length p ≤ k → labels_fit n (map label_of labels) ≡ false
-          → at_record 21 ≡ label_fault n (map label_of labels)
-      missing_key e h t =
+      pub missing_key : first_place (high_key n) labels ≡ None → labels_fit n (map label_of labels) ≡ false → at_record 21 ≡ label_fault n (map label_of labels)
+      missing_key e t =
           sym
           (label_fault_lem n labels
-          ∙ rw (none_found (again true) counted once, none_found (again false) keys apart, none_found (high_key n) e h, t))
+          ∙ rw (none_found (again true) counted, none_found (again false) keys, none_found (high_key n) e, t))
 
 -- a label is a key or FF
 pub keys_and_counted : (bs : List ℕ) → count_by (λ l. not (is_counted l)) (map label_of bs) + count_by (eqb 255) bs ≡ length bs
@@ -233,18 +248,12 @@ module _ (n : ℕ) (ls : List Label) (h : labels_fit n ls ≡ true) where
 
 -- ---- a label that equals one before it
 
-module _ (before : List ℕ) {b : ℕ} {counted : Bool} where
-  pub again_counted : b ≡ 255 → counted ≡ true → {r : Bool} → r ≡ any (eqb b) before → r ≡ again counted before b
-  again_counted e t f = f ∙ sym (rw (eq-eqb b 255 e, t))
-
-  pub again_no_key : b ≡ 255 → counted ≡ false → false ≡ again counted before b
-  again_no_key e t = sym (rw (eq-eqb b 255 e, t))
-
-  pub again_not_counted : (b ≡ 255 → ⊥) → counted ≡ true → false ≡ again counted before b
-  again_not_counted e t = sym (rw (ne_eqb b 255 e, t))
-
-  pub again_key : (b ≡ 255 → ⊥) → counted ≡ false → {r : Bool} → r ≡ any (eqb b) before → r ≡ again counted before b
-  again_key e t f = f ∙ sym (rw (ne_eqb b 255 e, t))
+pub again_same : (before : List ℕ) (b : ℕ) {counted : Bool} → eqb b 255 ≡ counted → any (eqb b) before ≡ again counted before b
+again_same before b e = sym (ap (λ (c : Bool). cond (eqb b 255) c (not c) && any (eqb b) before) (sym e) ∙ go (eqb b 255))
+  where
+    go : (x : Bool) → (cond x x (not x) && any (eqb b) before) ≡ any (eqb b) before
+    go true = refl
+    go false = refl
 
 -- ---- the labels before one, with one more
 
@@ -253,36 +262,40 @@ before_more p zero l h = absurd (omega arith)
 before_more [] (suc i) l h = absurd (omega arith)
 before_more (x ∷ xs) (suc i) l h = sym (rw (add-one (suc i)) (take-suc xs i 0 (omega arith)))
 
--- a search among the labels that has come to i
-pub search_start : (q : List ℕ → ℕ → Bool) (p : List ℕ) → 1 + first_at q (drop 1 (take 1 p)) (drop 1 p) ≡ 1 + first_at q [] (drop 1 p)
-search_start q [] = refl
-search_start q (x ∷ xs) = refl
-
-pub search_hit : (q : List ℕ → ℕ → Bool) (p : List ℕ) (i : ℕ) {r : ℕ} → i < length p → i + first_at q (drop 1 (take i p)) (drop i p) ≡ r → q (drop 1 (take i p)) (get_or p i 0) ≡ true → i ≡ r
-search_hit q p i h e t = let f = first_hit p i 0 h q (drop 1 (take i p)) t in omega arith
-
-pub search_miss : (q : List ℕ → ℕ → Bool) (p : List ℕ) (i : ℕ) {r : ℕ} → 1 ≤ i → i < length p → i + first_at q (drop 1 (take i p)) (drop i p) ≡ r → q (drop 1 (take i p)) (get_or p i 0) ≡ false
-    → i + 1 + first_at q (drop 1 (take (i + 1) p)) (drop (i + 1) p) ≡ r
-search_miss q p i l h e t =
-    let f = first_miss p i 0 h q (drop 1 (take i p)) t in
-    let g = ap (λ (b : List ℕ). first_at q b (drop (i + 1) p)) (before_more p i l h) in
-    omega arith
-
-pub search_end : (q : List ℕ → ℕ → Bool) (p : List ℕ) (i : ℕ) {r : ℕ} → length p ≤ i → i + first_at q (drop 1 (take i p)) (drop i p) ≡ r → i ≡ r
-search_end q p i h e = let f = first_end p i 0 q (drop 1 (take i p)) h in omega arith
-
--- ---- each number below n once
-
-pub once_more : (k : ℕ) (bs : List ℕ) → each_once k bs ≡ true → count_by (eqb k) bs ≡ 1 → each_once (k + 1) bs ≡ true
-once_more k bs t e = rw add-one (and_i t (eq-eqb _ 1 e))
-
-pub once_at : (k n : ℕ) (bs : List ℕ) → k < n → each_once n bs ≡ true → count_by (eqb k) bs ≡ 1
-once_at k zero bs h t = absurd (omega arith)
-once_at k (suc n) bs h t = go (bool_cases (eqb k n)) (λ g. once_at k n bs g (and_l _ _ t))
+-- a search among the labels behind the place i, by place
+search_places : (q : List ℕ → ℕ → Bool) (p : List ℕ) (i n : ℕ) → 1 ≤ i → i + n ≡ length p
+    → position (λ j. q (drop 1 (take j p)) (get_or p j 0)) (numbers_from i n) ≡ first_at q (drop 1 (take i p)) (drop i p)
+search_places q p i zero l e = sym (first_end p i 0 q (drop 1 (take i p)) (omega arith))
+search_places q p i (suc n) l e = go (q (drop 1 (take i p)) (get_or p i 0)) refl (search_places q p (i + 1) n (omega arith) (omega arith))
   where
-    go : (eqb k n ≡ true) ⊎ (eqb k n ≡ false) → (k < n → count_by (eqb k) bs ≡ 1) → count_by (eqb k) bs ≡ 1
-    go (inl e) ih = ap (λ (m : ℕ). count_by (eqb m) bs) (eqb-true k n e) ∙ eqb-true _ 1 (and_r (each_once n bs) _ t)
-    go (inr e) ih = let d = eqb-false k n e in ih (omega arith)
+    go : (b : Bool) → q (drop 1 (take i p)) (get_or p i 0) ≡ b
+        → position (λ j. q (drop 1 (take j p)) (get_or p j 0)) (numbers_from (i + 1) n) ≡ first_at q (drop 1 (take (i + 1) p)) (drop (i + 1) p)
+        → cond b 0 (suc (position (λ j. q (drop 1 (take j p)) (get_or p j 0)) (numbers_from (i + 1) n))) ≡ first_at q (drop 1 (take i p)) (drop i p)
+    go true t rest = sym (first_hit p i 0 (omega arith) q (drop 1 (take i p)) t)
+    go false t rest =
+        ap (λ (m : ℕ). suc m)
+        (rest
+        ∙ ap (λ (b : List ℕ). first_at q b (drop (i + 1) p)) (sym (before_more p i l (omega arith))))
+        ∙ sym (first_miss p i 0 (omega arith) q (drop 1 (take i p)) t)
+
+pub places_found : (counted : Bool) (p : List ℕ) → place_of (again_at counted p) (label_places p) ≡ first_place (again counted) (drop 1 p)
+places_found counted [] = refl
+places_found counted (x ∷ xs) =
+    let t = again_at counted (x ∷ xs) in
+    let m : length (x ∷ xs) - 1 ≡ length xs = omega arith in
+    ap (λ (n : ℕ). place_of t (numbers_from 1 n)) m
+    ∙ ap₂ (λ (k n : ℕ). cond (ltb k n) (Some k) None)
+    (sym (position_is t (numbers_from 1 (length xs))) ∙ search_places (again counted) (x ∷ xs) 1 (length xs) (omega arith) (omega arith))
+    (length-range_with_len 1 (length xs))
+
+-- a search by a test of the labels themselves
+first_plain : (q : ℕ → Bool) (before bs : List ℕ) → first_at (λ earlier b. q b) before bs ≡ position q bs
+first_plain q before [] = refl
+first_plain q before (b ∷ bs) = ap (λ (n : ℕ). cond (q b) 0 (suc n)) (first_plain q (before ++ (b ∷ [])) bs)
+
+pub high_found : (n : ℕ) (bs : List ℕ) → place_of (high_key n []) bs ≡ first_place (high_key n) bs
+high_found n bs =
+    ap (λ (k : ℕ). cond (ltb k (length bs)) (Some k) None) (sym (position_is (high_key n []) bs) ∙ sym (first_plain (high_key n []) [] bs))
 
 -- ---- labels that fit, by how many there are
 
@@ -312,9 +325,10 @@ below_next n b = go (ltb b n) refl (eqb n b) refl
 below_once : (n : ℕ) (bs : List ℕ) → each_once n bs ≡ true → count_by (λ b. ltb b n) bs ≡ n
 below_once zero bs t = count_none (λ b. ltb b 0) bs (λ b m l. let k = ltb-true b 0 l in omega arith)
 below_once (suc n) bs t =
+    let both = sym (once_more n bs) ∙ t in
     count_both (λ b. ltb b n) (eqb n) (λ b. ltb b (suc n)) (below_next n)
     (λ b l e. let k = ltb-true b n l in let same = eqb-true n b e in omega arith) bs
-    ∙ ap₂ (λ (x y : ℕ). x + y) (below_once n bs (and_l _ _ t)) (eqb-true (count_by (eqb n) bs) 1 (and_r (each_once n bs) _ t))
+    ∙ ap₂ (λ (x y : ℕ). x + y) (below_once n bs (and_l _ _ both)) (eqb-true (count_by (eqb n) bs) 1 (and_r (each_once n bs) _ both))
     ∙ add-one n
 
 -- all pass exactly where as many pass as there are
@@ -370,3 +384,31 @@ module _ (n : ℕ) (p : List ℕ) (few : n ≤ 6) where
         go false t k l =
             sym (off (labels_fit n (map label_of given)) (λ u.
             clash (and_r (keys_below n given) _ (and_l (keys_below n given && each_once n given) _ (sym fit_bytes ∙ u))) t))
+
+-- ---- labels beside arguments, and the rows that clear a key
+
+pub beside_zip : (bs as' : List ℕ)
+    → all may_stand (zip bs as') ≡ side_by_side key_beside bs as'
+beside_zip [] as' = refl
+beside_zip (b ∷ bs) [] = refl
+beside_zip (b ∷ bs) (a ∷ as') = ap₂ ◌&&◌ (sym (beside_bytes b a refl refl refl)) (beside_zip bs as')
+
+-- whether the row of a literal has FF where a component has a key, by the bytes of the row at an offset
+pub cleared_told : (p t : List ℕ) (at : ℕ) → at + 8 ≤ length t → {b : Bool} → b ≡ all may_stand (zip (drop 1 p) (take 6 (drop (at + 2) t)))
+    → eqb (get_or p 0 0) (get_or t (at + 1) 0) && not b ≡ key_cleared_in p (take 8 (drop at t))
+unfolding key_cleared_in
+cleared_told p t at h e =
+    let same : drop 2 (take 8 (drop at t)) ≡ take 6 (drop (at + 2) t) = drop-take 2 6 (drop at t) ∙ ap (take 6) (drop-drop 2 at t) in
+    ap₂ (λ (x y : Bool). x && not y) (ap (eqb (get_or p 0 0)) (sym (part_at 8 t at h 1 (omega arith))))
+    (e ∙ beside_zip (drop 1 p) (take 6 (drop (at + 2) t)) ∙ ap (side_by_side key_beside (drop 1 p)) (sym same))
+
+rows_from : (q : List ℕ → Bool) (t : List ℕ) (i n : ℕ) → any (λ j. q (take 8 (drop (8 * j) t))) (numbers_from i n) ≡ any q (rows_in n (drop (8 * i) t))
+rows_from q t i zero = refl
+rows_from q t i (suc n) =
+    ap (λ (b : Bool). q (take 8 (drop (8 * i) t)) || b)
+    (rows_from q t (i + 1) n
+    ∙ (let z : 8 * (i + 1) ≡ 8 * i + 8 = omega arith in ap (λ (k : ℕ). any q (rows_in n (drop k t))) z)
+    ∙ ap (λ (l : List ℕ). any q (rows_in n l)) (sym (drop-drop 8 (8 * i) t)))
+
+pub rows_told : (q : List ℕ → Bool) (t : List ℕ) (n : ℕ) → any (λ j. q (take 8 (drop (8 * j) t))) (below n) ≡ any q (rows_in n t)
+rows_told q t n = rows_from q t 0 n

@@ -18,7 +18,7 @@ use Rattle.literals.specs.declared.Label.TheVariants.{Key as keyed, Counted}
 use Rattle.literals.specs.Decode.{relation_record, action_record, literal_record, component_record, byte, label_of, component_of, literal_of}
 use Rattle.literals.specs.Decode.{action_of, with_literal, latest, field_stop, stop_of, extend, no_domain, max_relations, max_arguments}
 use Rattle.literals.specs.Decode.{max_actions, max_variables, max_literals, max_components}
-use Rattle.literals.specs.Domain.{key, Literal, Action, Component, is_counted, keys_of, Domain, no_action, action, bare, label_number}
+use Rattle.literals.specs.Domain.{key, Literal, Action, is_counted, keys_of, Domain, no_action, action, bare, label_number}
 use Rattle.literals.specs.Held.{row_of, component_row, all_literals, has_every, some_every, Bounded, within, relations_in, actions_in}
 use Rattle.literals.specs.Held.{components_in, keys_in, arity_in, bytes_from, component_row_in, component_rows_from, component_rows_in}
 use Rattle.literals.specs.Held.{variables_in, lasting_in, size_in, first_in, at_arities, at_components, at_variables, at_sorts, at_sizes}
@@ -695,20 +695,6 @@ literals_most {D} H = let a = rows_few D.actions H.bounded.sizes in let b = H.bo
 
 pub literals_none : {D : Domain} {head : List ℕ} → HeadOf D head → actions_in head ≡ 0 → 0 ≡ length (all_literals D.actions)
 literals_none {D} H z = let a = rows_few D.actions H.bounded.sizes in let b = H.actions in omega arith
-
-pub keys_first : {D : Domain} {head : List ℕ} → HeadOf D head → (c : Component) → components_in head ≡ 0 → count_by (λ l. not (is_counted l)) c.labels ≡ keys_of (D.template ++ (c ∷ []))
-keys_first {D} H c e = go D.template (sym H.components ∙ e)
-  where
-    go : (cs : List Component) → length cs ≡ 0 → count_by (λ l. not (is_counted l)) c.labels ≡ keys_of (cs ++ (c ∷ []))
-    go [] z = refl
-    go (d ∷ ds) z = absurd (omega arith)
-
-pub keys_later : {D : Domain} {head : List ℕ} → HeadOf D head → (c : Component) → (components_in head ≡ 0 → ⊥) → keys_in head ≡ keys_of (D.template ++ (c ∷ []))
-keys_later {D} H c e = H.keys ∙ go D.template (λ z. e (H.components ∙ z))
-  where
-    go : (cs : List Component) → (length cs ≡ 0 → ⊥) → keys_of cs ≡ keys_of (cs ++ (c ∷ []))
-    go [] z = absurd (z refl)
-    go (d ∷ ds) z = refl
 
 pub keys_short : (p : List ℕ) → length p ≤ 1 + max_arguments → count_by (λ l. not (is_counted l)) (map label_of (drop 1 p)) ≤ max_arguments
 keys_short p g =

@@ -8,13 +8,13 @@ use native.Mathlib.Numerals.{add-one}
 use native.Mathlib.Omega.{arith}
 use lib.Dec.{ltb, leb}
 use lib.ListN.{length, take, drop, get_or, length-append}
-use borrow.Author.Tests.{le-leb, lt-leb, lt-ltb, le-ltb, leb-true, leb-false}
-use Rattle.records.specs.Lists.{In, any}
+use borrow.Author.Tests.{le-leb, lt-leb, leb-true, leb-false}
+use Rattle.records.specs.Lists.{In}
 use Rattle.records.specs.Memory.{over}
 use Rattle.records.proofs.Lists.{bool_cases, get_d_in, flat_map_in}
 use Rattle.literals.specs.Decode.{max_relations, max_arguments, max_variables}
 use Rattle.literals.specs.Domain.{Literal, Action, Component, Domain, no_action, action}
-use Rattle.literals.specs.Held.{literal_row, component_row, all_literals, table_bytes, rows_in, Bounded, within, keys_in, components_in}
+use Rattle.literals.specs.Held.{literal_row, component_row, all_literals, table_bytes, rows_in, Bounded, within, components_in}
 use Rattle.literals.specs.Held.{arity_in, bytes_from, component_row_in, component_rows_from, component_rows_in, variables_in, size_in, first_in}
 use Rattle.literals.specs.Held.{HeadOf, TemplateOf, Held, SpanOf, at_arities, at_components, at_variables}
 use Rattle.literals.proofs.Tables.{length_literal_row, length_flat, length_literals, rows_flat}
@@ -36,21 +36,6 @@ within_le limit n = go (bool_cases (leb n limit))
     go : (leb n limit ≡ true) ⊎ (leb n limit ≡ false) → within limit n ≤ limit
     go (inl t) = let h : n ≤ limit = leb-true n limit t in let e = within_is limit n h in omega arith
     go (inr t) = let h : limit < n = leb-false n limit t in let e = within_none limit n h in omega arith
-
-pub keys_limit : (head : List ℕ) → keys_in head ≤ max_arguments
-unfolding keys_in
-keys_limit head = within_le max_arguments (get_or head 3 0)
-
--- ---- arities
-
-module _ (head : List ℕ) (r n : ℕ) (e : n ≡ r) where
-  pub arity_inside : n < max_relations → {m : ℕ} → m ≡ within max_arguments (get_or head (at_arities + n) 0) → m ≡ arity_in head r
-  unfolding arity_in
-  arity_inside h f = rw (lt-ltb r max_relations (omega arith)) (f ∙ ap (λ (k : ℕ). within max_arguments (get_or head (at_arities + k) 0)) e)
-
-  pub arity_outside : max_relations ≤ n → 0 ≡ arity_in head r
-  unfolding arity_in
-  arity_outside h = rw (le-ltb r max_relations (omega arith))
 
 -- ---- components
 
@@ -127,17 +112,6 @@ pub part_is : {D : Domain} {head : List ℕ} → TemplateOf D head → (d : Comp
 part_is {D} {head} H d c h =
     let n = H.components in
     sym (part_row head c (omega arith)) ∙ ap (λ (rs : List (List ℕ)). get_or rs c []) H.component_rows ∙ get_d_rows D.template d c h
-
--- whether one of them passes a test, from the row c on
-module _ (p : List ℕ → Bool) (head : List ℕ) (n c : ℕ) where
-  pub parts_hit : c < n → p (component_row_in head c) ≡ true → any p (component_rows_from head c (n - c)) ≡ true
-  parts_hit h e = ap (any p) (parts_next head n c h) ∙ rw e
-
-  pub parts_miss : c < n → p (component_row_in head c) ≡ false → any p (component_rows_from head c (n - c)) ≡ any p (component_rows_from head (c + 1) (n - (c + 1)))
-  parts_miss h e = ap (any p) (parts_next head n c h) ∙ rw e
-
-  pub parts_none : n ≤ c → any p (component_rows_from head c (n - c)) ≡ false
-  parts_none h = ap (any p) (parts_end head n c h)
 
 -- ---- the literals of an action
 

@@ -9,7 +9,7 @@ use lib.ListN.{length, length-append}
 use Rattle.records.specs.Lists.{In}
 use Rattle.records.proofs.Lists.{flat_map_in, flat_map_snoc, count_le}
 use Rattle.literals.specs.Domain.{Literal, Action, Component, is_counted, keys_of, Domain}
-use Rattle.literals.specs.declared.RecordFault.{RecordFault}
+use Rattle.literals.specs.Decode.{RecordStop}
 use Rattle.literals.specs.Decode.{RecordKind, latest, head_stop, with_literal, field_stop, field_place, stop_of, stop_place, max_arguments}
 use Rattle.literals.specs.Decode.{max_literals}
 use Rattle.literals.specs.Held.{all_literals}
@@ -29,24 +29,24 @@ module _ (D : Domain) (k : RecordKind) (p : List ℕ) (known : is_unknown k ≡ 
 
   pub stop_order : out_of_order D k ≡ true → stop_of D k p ≡ 13
   unfolding stop_of
-  stop_order o = ap (λ (f : RecordFault). f.number) (stop_by_head D k p (late o))
+  stop_order o = ap (λ (f : RecordStop). f.number) (stop_by_head D k p (late o))
 
   pub stop_limit : out_of_order D k ≡ false → at_limit D k ≡ true → stop_of D k p ≡ 14
   unfolding stop_of
-  stop_limit o l = ap (λ (f : RecordFault). f.number) (stop_by_head D k p (full o l))
+  stop_limit o l = ap (λ (f : RecordStop). f.number) (stop_by_head D k p (full o l))
 
   pub stop_field : out_of_order D k ≡ false → at_limit D k ≡ false → stop_of D k p ≡ field_stop D k p
   unfolding stop_of field_stop
-  stop_field o l = ap (λ (f : RecordFault). f.number) (stop_by_head D k p (none o l))
+  stop_field o l = ap (λ (f : RecordStop). f.number) (stop_by_head D k p (none o l))
 
   -- and its place
   pub place_limit : out_of_order D k ≡ false → at_limit D k ≡ true → stop_place D k p ≡ 0
   unfolding stop_place
-  place_limit o l = ap (λ (f : RecordFault). f.within) (stop_by_head D k p (full o l))
+  place_limit o l = ap (λ (f : RecordStop). f.within) (stop_by_head D k p (full o l))
 
   pub place_field : out_of_order D k ≡ false → at_limit D k ≡ false → stop_place D k p ≡ field_place D k p
   unfolding stop_place field_place
-  place_field o l = ap (λ (f : RecordFault). f.within) (stop_by_head D k p (none o l))
+  place_field o l = ap (λ (f : RecordStop). f.within) (stop_by_head D k p (none o l))
 
 -- ---- the literals of all actions
 

@@ -62,22 +62,22 @@ module _ (p : ℕ → Bool) (n i : ℕ) where
 from_snoc : (i n : ℕ) → numbers_from i (suc n) ≡ numbers_from i n ++ ((i + n) ∷ [])
 from_snoc i zero = let e : i + 0 ≡ i = omega arith in rw e
 from_snoc i (suc n) =
-    let e : i + suc n ≡ suc i + n = omega arith in
-    ap {B = List ℕ} (λ l. i ∷ l) (from_snoc (suc i) n ∙ ap {B = List ℕ} (λ k. numbers_from (suc i) n ++ (k ∷ [])) (sym e))
+    let e : i + suc n ≡ (i + 1) + n = omega arith in
+    ap {B = List ℕ} (λ l. i ∷ l) (from_snoc (i + 1) n ∙ ap {B = List ℕ} (λ k. numbers_from (i + 1) n ++ (k ∷ [])) (sym e))
 
 pub below_snoc : (n : ℕ) → below (suc n) ≡ below n ++ (n ∷ [])
 below_snoc n = from_snoc 0 n ∙ ap {B = List ℕ} (λ k. below n ++ (k ∷ [])) (omega arith)
 
 pub length_from : (i n : ℕ) → length (numbers_from i n) ≡ n
 length_from i zero = refl
-length_from i (suc n) = ap suc (length_from (suc i) n)
+length_from i (suc n) = ap suc (length_from (i + 1) n)
 
 -- ---- each of them is below the bound
 
-from_less : (i n : ℕ) {j : ℕ} → In j (numbers_from i n) → j < i + n
+pub from_less : (i n : ℕ) {j : ℕ} → In j (numbers_from i n) → j < i + n
 from_less i zero m = absurd (Memᴰ.not-nil m)
 from_less i (suc n) (Memᴰ.head e) = omega arith
-from_less i (suc n) (Memᴰ.tail m) = let h = from_less (suc i) n m in omega arith
+from_less i (suc n) (Memᴰ.tail m) = let h = from_less (i + 1) n m in omega arith
 
 pub below_less : (n : ℕ) {j : ℕ} → In j (below n) → j < n
 below_less n m = let h = from_less 0 n m in omega arith
@@ -85,9 +85,9 @@ below_less n m = let h = from_less 0 n m in omega arith
 -- and each number below the bound is one of them
 from_in : (i n : ℕ) {j : ℕ} → i ≤ j → j < i + n → In j (numbers_from i n)
 from_in i zero h g = absurd (omega arith)
-from_in i (suc n) {j} h g = go (bool_cases (eqb j i)) (λ k. from_in (suc i) n k (omega arith))
+from_in i (suc n) {j} h g = go (bool_cases (eqb j i)) (λ k. from_in (i + 1) n k (omega arith))
   where
-    go : (eqb j i ≡ true) ⊎ (eqb j i ≡ false) → (suc i ≤ j → In j (numbers_from (suc i) n)) → In j (i ∷ numbers_from (suc i) n)
+    go : (eqb j i ≡ true) ⊎ (eqb j i ≡ false) → (i + 1 ≤ j → In j (numbers_from (i + 1) n)) → In j (i ∷ numbers_from (i + 1) n)
     go (inl t) r = Memᴰ.head (eqb-true j i t)
     go (inr f) r = let ne = eqb-false j i f in Memᴰ.tail (r (omega arith))
 
@@ -124,9 +124,9 @@ module _ (p q : ℕ → Bool) (n : ℕ) (h : (j : ℕ) → j < n → p j ≡ q j
 
 -- ---- the elements of a list by index
 
-map_from : {B : Type 0} (f : ℕ → B) (i n : ℕ) → map f (numbers_from (suc i) n) ≡ map (λ j. f (suc j)) (numbers_from i n)
+map_from : {B : Type 0} (f : ℕ → B) (i n : ℕ) → map f (numbers_from (i + 1) n) ≡ map (λ j. f (suc j)) (numbers_from i n)
 map_from f i zero = refl
-map_from {B} f i (suc n) = ap {B = List B} (λ l. f (suc i) ∷ l) (map_from f (suc i) n)
+map_from {B} f i (suc n) = ap₂ {C = List B} (λ k l. k ∷ l) (ap f (add-one i)) (map_from f (i + 1) n)
 
 module _ {A : Type 0} (d : A) where
   pub at_take : (l : List A) (n : ℕ) → n ≤ length l → map (λ j. get_or l j d) (below n) ≡ take n l
@@ -147,10 +147,10 @@ side_all r d e (x ∷ xs) (y ∷ ys) h =
     ap (λ (t : Bool). r x y && t)
     (from 0 (length xs) ∙ side_all r d e xs ys (omega arith))
   where
-    from : (i n : ℕ) → all (λ i. r (get_or (x ∷ xs) i d) (get_or (y ∷ ys) i e)) (numbers_from (suc i) n) ≡ all
+    from : (i n : ℕ) → all (λ i. r (get_or (x ∷ xs) i d) (get_or (y ∷ ys) i e)) (numbers_from (i + 1) n) ≡ all
         (λ i. r (get_or xs i d) (get_or ys i e)) (numbers_from i n)
     from i zero = refl
-    from i (suc n) = ap (λ (t : Bool). r (get_or xs i d) (get_or ys i e) && t) (from (suc i) n)
+    from i (suc n) = ap₂ ◌&&◌ (ap (λ k. r (get_or (x ∷ xs) k d) (get_or (y ∷ ys) k e)) (add-one i)) (from (i + 1) n)
 
 -- the default does not matter
 pub get_d_map : {A B : Type 0} (f : A → B) (l : List A) (i : ℕ) (d : A) (e : B) → i < length l → get_or (map f l) i e ≡ f (get_or l i d)

@@ -1,6 +1,6 @@
 -- Laws of the loops over the rows of components, literals and classes: the place of a row, and the key tuple of a row. Assumes nothing.
 use mathlib.Core.Path.{◌≡◌, refl, sym, ap, ap₂, ◌∙◌}
-use mathlib.Core.Bool.{Bool, true, false, cond, ◌&&◌}
+use mathlib.Core.Bool.{Bool, true, false, cond}
 use mathlib.Core.List.{List, [], ◌∷◌, ◌++◌}
 use Prim.Native.Nat.{ℕ, zero, suc, ◌+◌, ◌-◌, ◌*◌, ◌%◌, ◌≤◌, ◌<◌}
 use native.Mathlib.Numerals.{add-one}
@@ -8,13 +8,13 @@ use native.Mathlib.Nat.{add_comm, mul-zero, mul-suc}
 use native.Mathlib.Omega.{arith}
 use lib.Dec.{eqb}
 use lib.ListN.{length, get_or, take, drop, replicate, length-append, get_or-append, drop_of_length-le}
-use lib.Seq.{drop-cons, drop-drop, get_or-append-add, take_all, take_at}
+use lib.Seq.{drop-cons, drop-drop, get_or-append-add, take_at}
 use borrow.Author.Tests.{eq-eqb, ne_eqb, eqb-true, eqb-false, lt-ltb, le-ltb}
 use Rattle.records.specs.Lists.{same_list, position, numbers_from}
 use Rattle.literals.specs.Domain.{key, is_key}
 use Rattle.literals.specs.Decode.{byte, label_of}
 use Rattle.literals.specs.Held.{EightAt, WordOf, rows_by, place_under, argument_at, under_key, under_keys, key_row, key_rows, word_from, key_word}
-use Rattle.literals.proofs.Rows.{length_row, row_inside, eight_by_four, row_none, row_more, row_all, same_miss, same_hit, same_end, length_part, part_at, rows_more, rows_end}
+use Rattle.literals.proofs.Rows.{row_inside, row_none, row_more, row_all, same_miss, same_hit, same_end, length_part, part_at, rows_more, rows_end}
 use Rattle.literals.proofs.Bytes.{label_key}
 
 -- ---- the place of the first row that passes, from row c on
@@ -46,18 +46,6 @@ module _ (w : ℕ) (x t : List ℕ) (at i : ℕ) (e : length x ≡ w) (h : at + 
 
   pub row_end : w ≤ i → same_list eqb (drop i x) (drop i (take w (drop at t))) ≡ true
   row_end l = same_end x (take w (drop at t)) i (omega arith) (omega (arith, length_part w t at h))
-
--- a key tuple of 8 bytes, four at a time
-module _ (x t : List ℕ) (at : ℕ) (e : length x ≡ 8) (h : at + 8 ≤ length t) where
-  tuple_by_four : same_list eqb x (take 8 (drop at t)) ≡ same_list eqb (take 4 (drop 0 x)) (take 4 (drop at t)) && same_list eqb (take 4 (drop 4 x)) (take 4 (drop (at + 4) t))
-  tuple_by_four = ap (λ (r : List ℕ). same_list eqb r (take 8 (drop at t))) (sym (take_all 8 x (omega arith))) ∙ eight_by_four x t 0 at (omega arith) h
-
-  pub tuple_same : {r : Bool} → same_list eqb (take 4 (drop 0 x)) (take 4 (drop at t)) ≡ true → r ≡ same_list eqb (take 4 (drop 4 x)) (take 4 (drop (at + 4) t))
-      → r ≡ same_list eqb x (take 8 (drop at t))
-  tuple_same p f = f ∙ sym (tuple_by_four ∙ ap (λ (b : Bool). b && same_list eqb (take 4 (drop 4 x)) (take 4 (drop (at + 4) t))) p)
-
-  pub tuple_other : same_list eqb (take 4 (drop 0 x)) (take 4 (drop at t)) ≡ false → false ≡ same_list eqb x (take 8 (drop at t))
-  tuple_other p = sym (tuple_by_four ∙ ap (λ (b : Bool). b && same_list eqb (take 4 (drop 4 x)) (take 4 (drop (at + 4) t))) p)
 
 -- ---- the argument under a key, from label i on
 
@@ -102,20 +90,19 @@ module _ (part rows : List ℕ) (at k : ℕ) (s : k < 255) (h : length part ≡ 
   from_label : (n i : ℕ) → i + n ≡ 6
       → argument_at rows at (i + position stands (numbers_from i n)) ≡ under_key k (drop (i + 1) part) (drop (i + 2) (take 8 (drop at rows)))
   from_label zero i e = rw (le-ltb (i + 0) 6 (omega arith)) (sym (under_end part rows at k i h g (omega arith)))
-  from_label (suc n) i e = go (stands i) refl (from_label n (suc i) (omega arith))
+  from_label (suc n) i e = go (stands i) refl (from_label n (i + 1) (omega arith))
     where
       go : (b : Bool) → stands i ≡ b
-          → argument_at rows at (suc i + position stands (numbers_from (suc i) n)) ≡ under_key k (drop (suc i + 1) part) (drop (suc i + 2) (take 8 (drop at rows)))
-          → argument_at rows at (i + cond b zero (suc (position stands (numbers_from (suc i) n)))) ≡ under_key k (drop (i + 1) part) (drop (i + 2) (take 8 (drop at rows)))
+          → argument_at rows at (i + 1 + position stands (numbers_from (i + 1) n)) ≡ under_key k (drop (i + 1 + 1) part) (drop (i + 1 + 2) (take 8 (drop at rows)))
+          → argument_at rows at (i + cond b zero (suc (position stands (numbers_from (i + 1) n)))) ≡ under_key k (drop (i + 1) part) (drop (i + 2) (take 8 (drop at rows)))
       go true t ih =
           let z : i + 0 ≡ i = omega arith in
           ap (argument_at rows at) z
           ∙ rw (lt-ltb i 6 (omega arith)) (sym (under_hit part rows at k i h g (omega arith) (sym (eqb-true k (get_or part (i + 1) 0) (sym (label_key k s (get_or part (i + 1) 0)) ∙ t)))))
       go false t ih =
-          let z : i + suc (position stands (numbers_from (suc i) n)) ≡ suc i + position stands (numbers_from (suc i) n) = omega arith in
+          let z : i + suc (position stands (numbers_from (i + 1) n)) ≡ i + 1 + position stands (numbers_from (i + 1) n) = omega arith in
           ap (argument_at rows at) z
           ∙ ih
-          ∙ ap (λ (j : ℕ). under_key k (drop (j + 1) part) (drop (j + 2) (take 8 (drop at rows)))) (sym (add-one i))
           ∙ sym (under_miss part rows at k i h g (omega arith) (λ f. eqb-false k (get_or part (i + 1) 0) (sym (label_key k s (get_or part (i + 1) 0)) ∙ t) (sym f)))
 
   pub under_place : argument_at rows at (place_under (key k) part) ≡ under_key k (drop 1 part) (drop 2 (take 8 (drop at rows)))
@@ -130,12 +117,8 @@ pub length_keys : (n : ℕ) (bs vs : List ℕ) → length (under_keys n bs vs) �
 length_keys zero bs vs = refl
 length_keys (suc n) bs vs = length-append (under_keys n bs vs) (under_key n bs vs ∷ []) ∙ omega (arith, length_keys n bs vs)
 
-pub length_tuple : (n : ℕ) (part row : List ℕ) → n ≤ 8 → length (key_row n part row) ≡ 8
-unfolding key_row
-length_tuple n part row h = length_row (under_keys n (drop 1 part) (drop 2 row)) (omega (arith, length_keys n (drop 1 part) (drop 2 row)))
-
 -- what stands under the key k
-under_at : (n k : ℕ) (bs vs : List ℕ) → k < n → get_or (under_keys n bs vs) k 0 ≡ under_key k bs vs
+pub under_at : (n k : ℕ) (bs vs : List ℕ) → k < n → get_or (under_keys n bs vs) k 0 ≡ under_key k bs vs
 under_at zero k bs vs h = absurd (omega arith)
 under_at (suc n) k bs vs h = go (eqb k n) refl (under_at n k bs vs)
   where
@@ -181,18 +164,6 @@ number_all n part row k h e A =
     row_all (under_keys n (drop 1 part) (drop 2 row)) k (omega arith) e A
 
 -- ---- key tuples as numbers
-
--- one byte more
-word_snoc : (w : ℕ) (xs : List ℕ) (x : ℕ) → word_from w (xs ++ (x ∷ [])) ≡ 256 * word_from w xs + x
-word_snoc w [] x = refl
-word_snoc w (y ∷ ys) x = word_snoc (256 * w + y) ys x
-
-pub word_more : (part row : List ℕ) (w k r : ℕ) → w ≡ word_from 0 (under_keys k (drop 1 part) (drop 2 row)) → r ≡ under_key k (drop 1 part) (drop 2 row)
-    → 256 * w + r ≡ word_from 0 (under_keys (k + 1) (drop 1 part) (drop 2 row))
-word_more part row w k r e f =
-    ap₂ (λ (a b : ℕ). 256 * a + b) e f
-    ∙ sym (word_snoc 0 (under_keys k (drop 1 part) (drop 2 row)) (under_key k (drop 1 part) (drop 2 row)))
-    ∙ ap (λ (n : ℕ). word_from 0 (under_keys n (drop 1 part) (drop 2 row))) (sym (add-one k))
 
 pub word_all : (n : ℕ) (part row : List ℕ) → word_from 0 (under_keys n (drop 1 part) (drop 2 row)) ≡ key_word n part row
 unfolding key_word key_row

@@ -11,7 +11,7 @@ use lib.ListN.{length, get_or, take, length-map}
 use borrow.Author.Tests.{eqb-true, eqb-false, ltb-true, ltb-false, le-ltb, leb-true}
 use Rattle.records.specs.Lists.{In, add_if, count_by, all, any, first_at, found}
 use Rattle.records.proofs.Lists.{and_l, and_r, bool_cases, off, eqb_same, any_in, all_in, count_append, count_pos}
-use Rattle.literals.specs.declared.RecordFault.{RecordFault}
+use Rattle.literals.specs.Decode.{RecordStop}
 use Rattle.literals.specs.declared.Key.{Key}
 use Rattle.literals.specs.declared.Label.{Label}
 use Rattle.literals.specs.declared.Label.TheVariants.{Key as keyed, Counted}
@@ -147,7 +147,7 @@ passes_fit n ls = go (found counted_again ls) (found key_again ls) (found (key_t
 
 -- and then there is no place
 pub passes_place : (n : ℕ) (ls : List Label) → (label_fault n ls).number ≡ 0 → (label_fault n ls).within ≡ 0
-passes_place n ls e = ap (λ (f : RecordFault). f.within) (fit_passes n ls (passes_fit n ls e))
+passes_place n ls e = ap (λ (f : RecordStop). f.within) (fit_passes n ls (passes_fit n ls e))
 
 -- ---- what a fault tells of the labels
 
@@ -178,7 +178,7 @@ pub label_cases : (n : ℕ) (ls : List Label) (P : ℕ → ℕ → Type 0)
 unfolding label_fault
 label_cases n ls P counted again high missing fit = go (found counted_again ls) refl (found key_again ls) refl (found (key_too_high n) ls) refl (labels_fit n ls) refl
   where
-    by : Bool → Bool → Bool → Bool → RecordFault
+    by : Bool → Bool → Bool → Bool → RecordStop
     by x y z b = cond x (at_label 25 (first_at counted_again [] ls)) (cond y (at_label 24 (first_at key_again [] ls)) (cond z (at_label 21 (first_at (key_too_high n) [] ls)) (cond b (at_record 0) (at_record 21))))
 
     go : (x : Bool) → found counted_again ls ≡ x → (y : Bool) → found key_again ls ≡ y → (z : Bool) → found (key_too_high n) ls ≡ z → (b : Bool) → labels_fit n ls ≡ b → P (by x y z b).number (by x y z b).within

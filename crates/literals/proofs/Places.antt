@@ -16,7 +16,8 @@ use Rattle.records.specs.Lists.{position, below}
 use Rattle.literals.specs.declared.Key.{Key}
 use Rattle.literals.specs.Domain.{key, is_key}
 use Rattle.literals.specs.Decode.{label_of}
-use Rattle.literals.specs.Held.{pad, within, component_row_in, component_rows_from, component_rows_in, keys_in, components_in, starts, marked}
+use Rattle.literals.specs.Held.{pad, within, component_row_in, component_rows_from, component_rows_in, keys_in, components_in, starts, marked, mark_of}
+use Rattle.std.specs.Prelude.{Option, Some, None, MatchOption}
 use Rattle.literals.specs.Held.{place_under, FirstComponents}
 use Rattle.literals.proofs.Heads.{parts_next, parts_end}
 use Rattle.literals.proofs.KeyRows.{place_le}
@@ -113,25 +114,6 @@ marked_all head n c places₀ places e f w z r h =
     ∙ ap (λ (k : ℕ). marked n (position (starts r) (component_rows_from head 0 k))) s
     ∙ ap (λ (k : ℕ). marked k (position (starts r) (component_rows_from head 0 k))) e
 
--- one component is written at its relation
-module _ (places part : List ℕ) (c : ℕ) where
-  pub put_outside : 64 ≤ get_or part 0 0 → (r : ℕ) → r < 64 → get_or places r 0 ≡ cond (starts r part) (c + 1) (get_or places r 0)
-  put_outside h r g = sym (ap (λ (b : Bool). cond b (c + 1) (get_or places r 0)) (ne_eqb r (get_or part 0 0) (λ e. omega arith)))
-
-  pub put_there : (at : ℕ) → at ≡ get_or part 0 0 → at < length places → (r : ℕ) → r < 64
-      → get_or (set places at (c + 1)) r 0 ≡ cond (starts r part) (c + 1) (get_or places r 0)
-  put_there at e h r g = go (bool_cases (starts r part))
-    where
-      go : (starts r part ≡ true) ⊎ (starts r part ≡ false)
-          → get_or (set places at (c + 1)) r 0 ≡ cond (starts r part) (c + 1) (get_or places r 0)
-      go (inl t) =
-          ap (λ (k : ℕ). get_or (set places at (c + 1)) k 0) (eqb-true r (get_or part 0 0) t ∙ sym e)
-          ∙ get_or-set_same places at (c + 1) 0 h
-          ∙ sym (ap (λ (b : Bool). cond b (c + 1) (get_or places r 0)) t)
-      go (inr t) =
-          get_or-set_other places at r (c + 1) 0 (λ z. eqb-false r (get_or part 0 0) t (z ∙ e))
-          ∙ sym (ap (λ (b : Bool). cond b (c + 1) (get_or places r 0)) t)
-
 -- what a mark says
 marked_cases : (n c : ℕ) → ((marked n c ≡ 0) × (c ≡ n)) ⊎ ((marked n c ≡ suc c) × (c ≡ n → ⊥))
 marked_cases n c = go (bool_cases (eqb c n))
@@ -140,28 +122,25 @@ marked_cases n c = go (bool_cases (eqb c n))
     go (inl t) = inl (ap (λ (b : Bool). cond b 0 (suc c)) t, eqb-true c n t)
     go (inr f) = inr (ap (λ (b : Bool). cond b 0 (suc c)) f, eqb-false c n f)
 
-pub mark_none : (n c m : ℕ) → m ≡ marked n c → m ≡ 0 → c ≡ n
-mark_none n c m e z = go (marked_cases n c)
+pub mark_none : (n c : ℕ) → 0 ≡ marked n c → c ≡ n
+mark_none n c e = go (marked_cases n c)
   where
     go : ((marked n c ≡ 0) × (c ≡ n)) ⊎ ((marked n c ≡ suc c) × (c ≡ n → ⊥)) → c ≡ n
     go (inl (q, s)) = s
     go (inr (q, s)) = absurd (omega arith)
 
-pub mark_some : (n c m : ℕ) → m ≡ marked n c → (m ≡ 0 → ⊥) → (m - 1 ≡ c) × (m - 1 ≡ n → ⊥)
-mark_some n c m e z = go (marked_cases n c)
+pub mark_some : (n c k : ℕ) → suc k ≡ marked n c → (k ≡ c) × (k ≡ n → ⊥)
+mark_some n c k e = go (marked_cases n c)
   where
-    go : ((marked n c ≡ 0) × (c ≡ n)) ⊎ ((marked n c ≡ suc c) × (c ≡ n → ⊥)) → (m - 1 ≡ c) × (m - 1 ≡ n → ⊥)
-    go (inl (q, s)) = absurd (z (e ∙ q))
+    go : ((marked n c ≡ 0) × (c ≡ n)) ⊎ ((marked n c ≡ suc c) × (c ≡ n → ⊥)) → (k ≡ c) × (k ≡ n → ⊥)
+    go (inl (q, s)) = absurd (omega arith)
     go (inr (q, s)) = (omega arith, λ h. s (omega arith))
 
--- of the place of a component, and of how many there are, as they were read
-module _ (n p c m : ℕ) (e : c ≡ p) (f : m ≡ n) where
-  pub marks_none : c ≡ m → 0 ≡ marked n p
-  marks_none g = sym (ap (λ (b : Bool). cond b 0 (suc p)) (eq-eqb p n (sym e ∙ g ∙ f)))
-
-  pub marks_some : (c ≡ m → ⊥) → c + 1 ≡ marked n p
-  marks_some g =
-      add-one c ∙ ap (λ (k : ℕ). suc k) e ∙ sym (ap (λ (b : Bool). cond b 0 (suc p)) (ne_eqb p n (λ z. g (e ∙ z ∙ sym f))))
+-- of the place of a component, if there is one
+pub marks_found : (o : Option ℕ) (n p : ℕ) → MatchOption o (p ≡ n) (λ c. (c ≡ p) × (c < n)) → mark_of o ≡ marked n p
+marks_found None n p h = sym (ap (λ (b : Bool). cond b 0 (suc p)) (eq-eqb p n h))
+marks_found (Some c) n p (e, l) =
+    ap (λ (k : ℕ). suc k) e ∙ sym (ap (λ (b : Bool). cond b 0 (suc p)) (ne_eqb p n (λ z. absurd (omega arith))))
 
 -- ---- the places of keys
 

@@ -15,7 +15,13 @@ use Rattle.records.specs.Record.{record_at, payload}
 use Rattle.records.proofs.Numbers.{number_of, numbered, by_numbers}
 use Rattle.literals.specs.declared.Label.{Label}
 use Rattle.literals.specs.Domain.{Action, Component, keys_of, labels_fit, Domain}
-use Rattle.literals.specs.declared.RecordFault.{RecordFault}
+use Rattle.literals.specs.declared.fault.Fault.{Fault}
+use Rattle.literals.specs.declared.fault.Fault.TheVariants.{FileTooLong, CutShort, UnknownKind, WrongLength, OutOfOrder, OverLimit}
+use Rattle.literals.specs.declared.fault.Fault.TheVariants.{OutOfRange, WrongRole, NoSuchRelation, NoSuchVariable, RepeatedLiteral}
+use Rattle.literals.specs.declared.fault.Fault.TheVariants.{OppositeConditions, WrongKey, RelationUsed, NoComponent, KeyTwice, CountedTwice}
+use Rattle.literals.specs.declared.fault.Fault.TheVariants.{WrongEvery, KeyCleared}
+use Rattle.literals.specs.Faults.{fault_number}
+use Rattle.literals.specs.Decode.{RecordStop}
 use Rattle.literals.specs.Decode.{max_file, RecordKind, relation_record, action_record, literal_record, component_record, closing_record}
 use Rattle.literals.specs.Decode.{unknown_record, kind_of, head_stop, byte, relation_stop, field_fault}
 use Rattle.literals.specs.Decode.{action_stop, literal_stop, at_record, at_label, component_of, counted_again, key_again, key_too_high}
@@ -34,6 +40,31 @@ Refuses n = (9 ≤ n) × (n ≤ 27)
 -- such a number, or 0 where nothing stops the record
 abbrev pub Stop : ℕ → Type 0
 Stop n = (n ≡ 0) ⊎ Refuses n
+
+-- each fault has such a number, and so is not 0
+pub fault_refuses : (f : Fault) → Refuses (fault_number f)
+fault_refuses FileTooLong = (omega arith, omega arith)
+fault_refuses CutShort = (omega arith, omega arith)
+fault_refuses UnknownKind = (omega arith, omega arith)
+fault_refuses WrongLength = (omega arith, omega arith)
+fault_refuses OutOfOrder = (omega arith, omega arith)
+fault_refuses OverLimit = (omega arith, omega arith)
+fault_refuses OutOfRange = (omega arith, omega arith)
+fault_refuses WrongRole = (omega arith, omega arith)
+fault_refuses NoSuchRelation = (omega arith, omega arith)
+fault_refuses NoSuchVariable = (omega arith, omega arith)
+fault_refuses RepeatedLiteral = (omega arith, omega arith)
+fault_refuses OppositeConditions = (omega arith, omega arith)
+fault_refuses WrongKey = (omega arith, omega arith)
+fault_refuses RelationUsed = (omega arith, omega arith)
+fault_refuses NoComponent = (omega arith, omega arith)
+fault_refuses KeyTwice = (omega arith, omega arith)
+fault_refuses CountedTwice = (omega arith, omega arith)
+fault_refuses WrongEvery = (omega arith, omega arith)
+fault_refuses KeyCleared = (omega arith, omega arith)
+
+pub fault_some : (f : Fault) → fault_number f ≡ 0 → ⊥
+fault_some f e = let r = fault_refuses f in let l = r.0 in omega arith
 
 -- rows with such numbers stop a record by one of them
 stop_rows : (rows : List (Bool × ℕ)) (n : ℕ) → numbered (λ m. leb 9 m && leb m 27) rows ≡ true → Stop n → Stop (number_of rows n)
@@ -54,7 +85,7 @@ stop_label n ls = go (found counted_again ls) (found key_again ls) (found (key_t
     go false false false false = inr (omega arith, omega arith)
 
 -- 27 where nothing else stops it
-stop_cleared : (as' : List Action) (c : Component) (f : RecordFault) → Stop f.number → Stop (cleared_fault as' c f).number
+stop_cleared : (as' : List Action) (c : Component) (f : RecordStop) → Stop f.number → Stop (cleared_fault as' c f).number
 stop_cleared as' c f h = go (eqb f.number 0 && keys_cleared as' c)
   where
     go : (b : Bool) → Stop (cond b (at_record 27) f).number

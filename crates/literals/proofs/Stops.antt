@@ -10,7 +10,7 @@ use borrow.Author.Tests.{ltb-true, ltb-false, leb-false, eqb-true, eqb-false, eq
 use Rattle.records.specs.Lists.{any, empty}
 use Rattle.records.proofs.Lists.{and_l, and_r, not_false, clash, or_out}
 use Rattle.records.proofs.Numbers.{number_of, numbered, none_passes}
-use Rattle.literals.specs.declared.RecordFault.{RecordFault}
+use Rattle.literals.specs.Decode.{RecordStop}
 use Rattle.literals.specs.Domain.{clears_once, Action, Component, keys_of, labels_fit, Domain, arity}
 use Rattle.literals.specs.Decode.{max_relations, max_actions, max_literals, max_components, RecordKind, relation_record, action_record}
 use Rattle.literals.specs.Decode.{literal_record, component_record, closing_record, unknown_record, latest, head_stop, byte}
@@ -155,14 +155,14 @@ component_rows D p =
     ∷ []
 
 -- the labels of a component, of the template with it
-abbrev pub labels_fault : Domain → List ℕ → RecordFault
+abbrev pub labels_fault : Domain → List ℕ → RecordStop
 labels_fault D p = label_fault (keys_of (D.template ++ (component_of p ∷ []))) (component_of p).labels
 
 -- then its keys, where the literals of its relation have FF
-abbrev pub last_fault : Domain → List ℕ → RecordFault
+abbrev pub last_fault : Domain → List ℕ → RecordStop
 last_fault D p = cleared_fault D.actions (component_of p) (labels_fault D p)
 
-pub cleared_passes : (as' : List Action) (c : Component) (f : RecordFault) → (cleared_fault as' c f).number ≡ 0
+pub cleared_passes : (as' : List Action) (c : Component) (f : RecordStop) → (cleared_fault as' c f).number ≡ 0
     → (f.number ≡ 0) × (keys_cleared as' c ≡ false)
 cleared_passes as' c f = go (eqb f.number 0) (keys_cleared as' c) refl
   where
@@ -172,7 +172,7 @@ cleared_passes as' c f = go (eqb f.number 0) (keys_cleared as' c) refl
     go false t e z = absurd (eqb-false f.number 0 e z)
 
 -- where nothing stops it there is no place
-pub cleared_place : (as' : List Action) (c : Component) (f : RecordFault) → (f.number ≡ 0 → f.within ≡ 0)
+pub cleared_place : (as' : List Action) (c : Component) (f : RecordStop) → (f.number ≡ 0 → f.within ≡ 0)
     → (cleared_fault as' c f).number ≡ 0 → (cleared_fault as' c f).within ≡ 0
 cleared_place as' c f h = go (eqb f.number 0 && keys_cleared as' c)
   where
@@ -181,11 +181,11 @@ cleared_place as' c f h = go (eqb f.number 0 && keys_cleared as' c)
     go false e = h e
 
 -- rows at the record, and a fault behind them
-abbrev pub fault_by : List (Bool × ℕ) → RecordFault → RecordFault
+abbrev pub fault_by : List (Bool × ℕ) → RecordStop → RecordStop
 fault_by [] f = f
 fault_by (row ∷ rows) f = cond row.0 (at_record row.1) (fault_by rows f)
 
-pub fault_number : (rows : List (Bool × ℕ)) (f : RecordFault) → (fault_by rows f).number ≡ number_of rows f.number
+pub fault_number : (rows : List (Bool × ℕ)) (f : RecordStop) → (fault_by rows f).number ≡ number_of rows f.number
 fault_number [] f = refl
 fault_number (row ∷ rows) f = go row.0 (fault_number rows f)
   where
@@ -194,7 +194,7 @@ fault_number (row ∷ rows) f = go row.0 (fault_number rows f)
     go false ih = ih
 
 -- the rows by themselves, and the fault behind them
-pub faults_split : (rows : List (Bool × ℕ)) (f : RecordFault) → numbered (ltb 0) rows ≡ true → fault_by rows f ≡ cond (eqb (number_of rows 0) 0) f (at_record (number_of rows 0))
+pub faults_split : (rows : List (Bool × ℕ)) (f : RecordStop) → numbered (ltb 0) rows ≡ true → fault_by rows f ≡ cond (eqb (number_of rows 0) 0) f (at_record (number_of rows 0))
 faults_split [] f t = refl
 faults_split (row ∷ rows) f t = go row.0 (faults_split rows f (and_r (ltb 0 row.1) _ t))
   where
@@ -204,7 +204,7 @@ faults_split (row ∷ rows) f t = go row.0 (faults_split rows f (and_r (ltb 0 ro
     go false ih = ih
 
 -- where nothing stops it there is no place
-pub faults_none : (rows : List (Bool × ℕ)) (f : RecordFault) → numbered (ltb 0) rows ≡ true → (f.number ≡ 0 → f.within ≡ 0) → (fault_by rows f).number ≡ 0 → (fault_by rows f).within ≡ 0
+pub faults_none : (rows : List (Bool × ℕ)) (f : RecordStop) → numbered (ltb 0) rows ≡ true → (f.number ≡ 0 → f.within ≡ 0) → (fault_by rows f).number ≡ 0 → (fault_by rows f).within ≡ 0
 faults_none [] f t h e = h e
 faults_none (row ∷ rows) f t h e = go row.0 e (faults_none rows f (and_r (ltb 0 row.1) _ t) h)
   where

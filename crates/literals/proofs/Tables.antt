@@ -21,7 +21,7 @@ use Rattle.literals.specs.declared.Argument.TheVariants.{Variable as bound, Ever
 use Rattle.literals.specs.declared.Label.{Label}
 use Rattle.literals.specs.declared.Role.{Role}
 use Rattle.literals.specs.Domain.{is_every, same_argument, meet_argument, same_atom, same_literal, meets, role_of, role_number}
-use Rattle.literals.specs.Domain.{label_number, same_role, Literal, Action, Component, is_counted, keys_bound, keeps_keys}
+use Rattle.literals.specs.Domain.{same_role, Literal, Action, Component, is_counted, keys_bound, keeps_keys}
 use Rattle.literals.specs.Domain.{Domain, arity}
 use Rattle.literals.specs.Decode.{max_arguments, byte, argument_of, literal_of, repeats, contrary, together, contradicts, label_of}
 use Rattle.literals.specs.Decode.{component_of, keys_cleared}
@@ -64,9 +64,6 @@ module _ {A : Type 0} (f : A → List ℕ) where
 
 pub length_literal_row : (l : Literal) → length l.atom.args ≤ max_arguments → length (literal_row l) ≡ 8
 length_literal_row l h = length_row (role_number l.role ∷ l.atom.rel ∷ map argument_number l.atom.args) (rw length-map (omega arith))
-
-pub length_component_row : (c : Component) → length c.labels ≤ max_arguments → length (component_row c) ≡ 8
-length_component_row c h = length_row (c.rel ∷ map label_number c.labels) (rw length-map (omega arith))
 
 module _ (ls : List Literal) (h : (l : Literal) → In l ls → length l.atom.args ≤ max_arguments) where
   pub length_literals : length (flat_map literal_row ls) ≡ 8 * length ls
@@ -301,7 +298,7 @@ none_cleared (a ∷ as') c e =
 
 pub cleared_rows : (D : Domain) → Bounded D → (p : List ℕ) → length p ≡ 1 + arity D (byte p 0)
     → keys_cleared D.actions (component_of p) ≡ any (key_cleared_in p) (map literal_row (all_literals D.actions))
-unfolding all_literals flat_map
+unfolding all_literals flat_map key_cleared_in
 cleared_rows D B p e =
     go D.actions (λ a m l i. row l (B.literal_arity a m l i) (B.variables a m l i))
     ∙ sym (any_map literal_row (key_cleared_in p) (flat_map (λ (a : Action). a.lits) D.actions))

@@ -4,7 +4,6 @@ use Rattle.records.specs.Lists.{any, first_at, found, empty}
 use Rattle.records.specs.declared.Record.{Record}
 use Rattle.records.specs.declared.Record.TheVariants.{Whole, Cut, End}
 use Rattle.records.specs.Record.{record_at, payload}
-use Rattle.literals.specs.declared.RecordFault.{RecordFault}
 use Rattle.literals.specs.declared.Argument.{Argument}
 use Rattle.literals.specs.declared.Argument.TheVariants.{Variable as bound, Every}
 use Rattle.literals.specs.declared.Label.{Label}
@@ -163,16 +162,22 @@ key_again before l = any (same_label_key l) before
 abbrev pub key_too_high : ℕ → List Label → Label → Bool
 key_too_high n before l = not (key_below n l)
 
+-- what stops a record: its number, and how far behind the record's start the fault stands, 0 for the record itself; number 0 where nothing
+-- stops it
+pub record RecordStop : Type 0 where
+  pub number : ℕ
+  pub within : ℕ
+
 -- a fault at the record itself, and at its label i: the labels stand behind the 4 bytes of the head and the relation
-abbrev pub at_record : ℕ → RecordFault
+abbrev pub at_record : ℕ → RecordStop
 at_record n = record { number = n; within = 0 }
 
-abbrev pub at_label : ℕ → ℕ → RecordFault
+abbrev pub at_label : ℕ → ℕ → RecordStop
 at_label n i = record { number = n; within = 5 + i }
 
 -- "Two FF labels give 25, a repeated key 24, the rest 21", "checked in that order": of a template that has n keys. "The offset given is
 -- that of the label byte"; "Where a key is only missing it stays the record's."
-unfoldable pub label_fault : ℕ → List Label → RecordFault
+unfoldable pub label_fault : ℕ → List Label → RecordStop
 unfolding labels_fit
 label_fault n ls =
     cond (found counted_again ls) (at_label 25 (first_at counted_again [] ls))
@@ -185,11 +190,11 @@ abbrev pub keys_cleared : List Action → Component → Bool
 keys_cleared as' c = any (λ (a : Action). any (λ (l : Literal). not (keeps_keys c l.atom)) a.lits) as'
 
 -- of labels that nothing else stops: "27 after 21"
-abbrev pub cleared_fault : List Action → Component → RecordFault → RecordFault
+abbrev pub cleared_fault : List Action → Component → RecordStop → RecordStop
 cleared_fault as' c f = cond (eqb f.number 0 && keys_cleared as' c) (at_record 27) f
 
 -- "22 relation used before", then the labels
-unfoldable pub component_fault : Domain → List ℕ → RecordFault
+unfoldable pub component_fault : Domain → List ℕ → RecordStop
 unfolding label_fault
 component_fault D p =
     let c = component_of p in
@@ -204,7 +209,7 @@ unfoldable pub closing_stop : Domain → List ℕ → ℕ
 closing_stop D p = cond (not (eqb (length p) 0)) 12 (cond (empty D.template) 23 0)
 
 -- of each kind; only a label has a place of its own
-unfoldable pub field_fault : Domain → RecordKind → List ℕ → RecordFault
+unfoldable pub field_fault : Domain → RecordKind → List ℕ → RecordStop
 unfolding relation_stop action_stop literal_stop component_fault closing_stop
 field_fault D relation_record p = at_record (relation_stop p)
 field_fault D action_record p = at_record (action_stop p)
@@ -214,7 +219,7 @@ field_fault D closing_record p = at_record (closing_stop D p)
 field_fault D unknown_record p = at_record 0
 
 -- "each down the rows": what stops a whole record, with its place; number 0 where nothing does
-unfoldable pub fault_of_record : Domain → RecordKind → List ℕ → RecordFault
+unfoldable pub fault_of_record : Domain → RecordKind → List ℕ → RecordStop
 unfolding head_stop field_fault
 fault_of_record D k p = cond (eqb (head_stop D k) 0) (field_fault D k p) (at_record (head_stop D k))
 
@@ -251,7 +256,7 @@ abbrev pub refuse : ℕ → ℕ → Refusal
 refuse n start = record { number = n; place = start; start = start }
 
 -- a record at fault, from its start on: a label gives the label's offset
-abbrev pub refuse_at : RecordFault → ℕ → Refusal
+abbrev pub refuse_at : RecordStop → ℕ → Refusal
 refuse_at f start = record { number = f.number; place = start + f.within; start = start }
 
 pub data Decoded : Type 0 where

@@ -1,19 +1,21 @@
 -- How the code holds a domain: literals and components as rows of 8 bytes, a head in sections and the table of the literals, key
 -- tuples, and the fields of a record as the code tests them. Assumes nothing.
-use Rattle.std.specs.Prelude.{◌≡◌, Bool, true, false, ◌&&◌, ◌||◌, cond, not, ℕ, zero, suc, ◌+◌, ◌-◌, ◌*◌, ◌/◌, ◌%◌, ◌≤◌, ◌<◌, eqb, ltb, leb, length, take, drop, get_or, replicate}
+use Rattle.std.specs.Prelude.{◌≡◌, Option, Some, None, Bool, true, false, ◌&&◌, ◌||◌, cond, not, ℕ, zero, suc, ◌+◌, ◌-◌, ◌*◌, ◌/◌, ◌%◌, ◌≤◌, ◌<◌, eqb, ltb, leb, length, take, drop, get_or, replicate}
 use mathlib.Core.List.{List, [], ◌∷◌, ◌++◌, map, flat_map}
-use Rattle.records.specs.Lists.{In, any, same_list, distinct, position, below, all, count_by, side_by_side}
+use Rattle.std.specs.List.{count_by as library_count}
+use Rattle.records.specs.Lists.{In, any, same_list, distinct, position, below, numbers_from, all, side_by_side}
 use Rattle.records.specs.Memory.{over}
 use Rattle.literals.specs.declared.Variable.{Variable}
 use Rattle.literals.specs.declared.Argument.{Argument}
 use Rattle.literals.specs.declared.Argument.TheVariants.{Variable as bound, Every}
-use Rattle.literals.specs.Domain.{is_every, variables_of, role_number, role_of, Literal, clears_once, Action, Component, keeps_keys, keys_of}
+use Rattle.literals.specs.Domain.{is_counted, is_every, variables_of, role_number, role_of, Literal, clears_once, Action, Component, keeps_keys, keys_of}
 use Rattle.literals.specs.Domain.{label_number, labels_fit, Domain, arity, action, key, is_key, usage_number, same_time}
 use Rattle.literals.specs.Decode.{byte, max_relations, max_arguments, max_actions, max_variables, max_literals, max_components, RecordKind}
-use Rattle.literals.specs.Decode.{stop_of, extend, label_of, literal_of, no_variable}
+use Rattle.literals.specs.Decode.{stop_of, extend, argument_of, label_of, literal_of, no_variable}
 use Rattle.literals.specs.declared.span.Span.{Span}
 use Rattle.literals.specs.declared.Key.{Key}
 use Rattle.literals.specs.declared.Time.{Time}
+use Rattle.literals.specs.declared.Usage.{Usage}
 use Rattle.literals.specs.declared.Role.{Role}
 
 -- ---- rows of 8 bytes
@@ -68,7 +70,13 @@ pub record FourAt (s : List ℕ) (at r : ℕ) : Type 0 where
   pub third : get_or s (at + 2) 0 < 256
   pub fourth : get_or s (at + 3) 0 < 256
 
--- that of the eight bytes at an offset, by those of the first four and of the others
+-- the eight bytes at an offset
+abbrev pub eight_bytes : List ℕ → ℕ → List ℕ
+eight_bytes s at =
+    get_or s at 0 ∷ get_or s (at + 1) 0 ∷ get_or s (at + 2) 0 ∷ get_or s (at + 3) 0
+    ∷ get_or s (at + 4) 0 ∷ get_or s (at + 5) 0 ∷ get_or s (at + 6) 0 ∷ get_or s (at + 7) 0 ∷ []
+
+-- their number, by those of the first four and of the others
 pub record EightAt (s : List ℕ) (at r : ℕ) : Type 0 where
   pub low : ℕ
   pub high : ℕ
@@ -318,6 +326,11 @@ unfoldable pub usage_for : Time → ℕ → ℕ
 unfolding role_of
 usage_for t r = usage_among t (role_of r)
 
+-- that number, as the code has it: a usage, or none
+abbrev pub number_for : Option Usage → ℕ
+number_for None = 0
+number_for (Some c) = suc (usage_number c)
+
 -- ---- key tuples, by the bytes of rows
 
 -- the place of the argument under a key, of a component's row, or how many arguments there may be
@@ -333,6 +346,11 @@ starts r component = eqb r (byte component 0)
 -- the number of one of n components, and 1; 0 for none
 abbrev pub marked : ℕ → ℕ → ℕ
 marked n c = cond (eqb c n) 0 (suc c)
+
+-- the number that such a byte stands for, as a byte again
+abbrev pub mark_of : Option ℕ → ℕ
+mark_of None = 0
+mark_of (Some c) = suc c
 
 -- at each relation its first component
 abbrev pub FirstComponents : List ℕ → List ℕ → Type 0
@@ -440,6 +458,13 @@ component_fields head p =
 abbrev pub again : Bool → List ℕ → ℕ → Bool
 again counted before b = cond (eqb b 255) counted (not counted) && any (eqb b) before
 
+-- whether the label at a place of a payload is, and the places of the labels there
+abbrev pub again_at : Bool → List ℕ → ℕ → Bool
+again_at counted p i = again counted (drop 1 (take i p)) (byte p i)
+
+abbrev pub label_places : List ℕ → List ℕ
+label_places p = numbers_from 1 (length p - 1)
+
 -- a key that is not below n
 abbrev pub high_key : ℕ → List ℕ → ℕ → Bool
 high_key n before b = not (eqb b 255 || ltb b n)
@@ -450,8 +475,7 @@ keys_below n bs = all (λ b. eqb b 255 || ltb b n) bs
 
 -- each of the numbers below n stands once
 abbrev pub each_once : ℕ → List ℕ → Bool
-each_once zero bs = true
-each_once (suc n) bs = each_once n bs && eqb (count_by (eqb n) bs) 1
+each_once n bs = all (λ k. eqb (library_count (eqb k) bs) 1) (below n)
 
 -- ---- labels beside the arguments of a literal's row
 
@@ -459,6 +483,10 @@ each_once (suc n) bs = each_once n bs && eqb (count_by (eqb n) bs) 1
 abbrev pub key_beside : ℕ → ℕ → Bool
 key_beside label argument = eqb label 255 || not (eqb argument 255)
 
+-- the same, of the label and the argument of two bytes
+abbrev pub may_stand : ℕ × ℕ → Bool
+may_stand x = is_counted (label_of x.0) || not (is_every (argument_of x.1))
+
 -- the row of a literal has the relation of a component's payload, and FF where one of its labels is a key
-abbrev pub key_cleared_in : List ℕ → List ℕ → Bool
+unfoldable pub key_cleared_in : List ℕ → List ℕ → Bool
 key_cleared_in p row = eqb (byte p 0) (byte row 1) && not (side_by_side key_beside (drop 1 p) (drop 2 row))

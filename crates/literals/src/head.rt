@@ -17,7 +17,6 @@ use super::limits::{
 };
 use super::row::{put_word, row_word};
 use super::span::Span;
-use records::bytes::wide;
 
 pub const HEAD: usize = CLEARS + 1;
 
@@ -53,50 +52,62 @@ fn limited(n: u8, limit: u8) -> u8
     ensures number { result ≡ within limit n }
     ensures few { result ≤ limit }
 {
-    if n <= limit {
-        return n;
-    }
-    0
+    if n <= limit { n } else { 0 }
 }
 
+// The number in a byte of the head, 0 above the limit.
+fn number_at(head: &Head, at: usize, limit: u8) -> usize
+    requires { at < head_bytes }
+    ensures number { result ≡ within limit (get_or head.now at 0) }
+    ensures few { result ≤ limit }
+{
+    usize::from(limited(head[at], limit))
+}
+
+#[tactic(auto, unfolding(crate::specs::Held::relations_in))]
 pub fn relations_in(head: &Head) -> usize
     ensures number { result ≡ relations_in head.now }
     ensures few { result ≤ max_relations }
 {
-    wide(limited(head[RELATIONS], MAX_RELATIONS as u8))
+    number_at(head, RELATIONS, MAX_RELATIONS as u8)
 }
 
+#[tactic(auto, unfolding(crate::specs::Held::actions_in))]
 pub fn actions_in(head: &Head) -> usize
     ensures number { result ≡ actions_in head.now }
     ensures few { result ≤ max_actions }
 {
-    wide(limited(head[ACTIONS], MAX_ACTIONS as u8))
+    number_at(head, ACTIONS, MAX_ACTIONS as u8)
 }
 
+#[tactic(auto, unfolding(crate::specs::Held::components_in))]
 pub fn components_in(head: &Head) -> usize
     ensures number { result ≡ components_in head.now }
     ensures few { result ≤ max_components }
 {
-    wide(limited(head[COMPONENTS], MAX_COMPONENTS as u8))
+    number_at(head, COMPONENTS, MAX_COMPONENTS as u8)
 }
 
+#[tactic(auto, unfolding(crate::specs::Held::keys_in))]
 pub fn keys_in(head: &Head) -> usize
     ensures number { result ≡ keys_in head.now }
     ensures few { result ≤ max_arguments }
 {
-    wide(limited(head[KEYS], MAX_ARGUMENTS as u8))
+    number_at(head, KEYS, MAX_ARGUMENTS as u8)
 }
 
 // The arity of a relation, 0 where there is none.
+#[tactic(auto, unfolding(crate::specs::Held::arity_in))]
 pub fn arity_of(head: &Head, relation: u8) -> u8
     ensures number { result ≡ arity_in head.now relation }
     ensures few { result ≤ max_arguments }
 {
-    let at = wide(relation);
+    let at = usize::from(relation);
     if at < MAX_RELATIONS {
-        return limited(head[ARITIES + at], MAX_ARGUMENTS as u8);
+        limited(head[ARITIES + at], MAX_ARGUMENTS as u8)
+    } else {
+        0
     }
-    0
 }
 
 // A byte of a component: its relation, then its labels.
@@ -112,17 +123,10 @@ pub fn component_byte(head: &Head, c: usize, i: usize) -> u8
 pub fn is_used(head: &Head, relation: u8) -> bool
     ensures { result ≡ any (λ row. eqb relation (byte row 0)) (component_rows_in head.now) }
 {
-    let n = components_in(head);
-    let mut c = 0;
-    while c < n {
-        if component_byte(head, c, 0) == relation {
-            return true;
-        }
-        c += 1;
-    }
-    false
+    (0..components_in(head)).any(|c| relation == component_byte(head, c, 0))
 }
 
+#[tactic(auto, unfolding(crate::specs::Held::variables_in))]
 pub fn variables_of(head: &Head, i: usize) -> u8
     requires { i < max_actions }
     ensures number { result ≡ variables_in head.now i }
@@ -131,6 +135,7 @@ pub fn variables_of(head: &Head, i: usize) -> u8
     limited(head[VARIABLES + i], MAX_VARIABLES as u8)
 }
 
+#[tactic(auto, unfolding(crate::specs::Held::lasting_in))]
 pub fn is_lasting(head: &Head, i: usize) -> bool
     requires { i < max_actions }
     ensures { result ≡ lasting_in head.now i }
@@ -139,15 +144,17 @@ pub fn is_lasting(head: &Head, i: usize) -> bool
 }
 
 // The row of an action's first literal.
+#[tactic(auto, unfolding(crate::specs::Held::first_in))]
 fn first_of(head: &Head, i: usize) -> usize
     requires { i < max_actions }
     ensures row { result ≡ first_in head.now i }
     ensures low { result < 65536 }
 {
-    wide(head[LOWS + i]) + 256 * wide(head[HIGHS + i])
+    usize::from(u16::from_le_bytes([head[LOWS + i], head[HIGHS + i]]))
 }
 
 // How many literals an action has.
+#[tactic(auto, unfolding(crate::specs::Held::size_in))]
 fn size_of(head: &Head, i: usize) -> u8
     requires { i < max_actions }
     ensures number { result ≡ size_in head.now i }
@@ -165,7 +172,7 @@ pub fn span_of(head: &Head, i: usize) -> Span
     ensures size { result.to ≡ result.from + size_in head.now i }
 {
     let from = first_of(head, i);
-    let to = from + wide(size_of(head, i));
+    let to = from + usize::from(size_of(head, i));
     Span { from, to }
 }
 
@@ -177,10 +184,11 @@ pub fn rows_of(head: &Head, table: &[u8], i: usize) -> Span
         → SpanOf D i table.now result }
 {
     let span = span_of(head, i);
-    if table.len() < 8 * span.to {
-        return Span { from: 0, to: 0 };
+    if 8 * span.to <= table.len() {
+        span
+    } else {
+        Span { from: 0, to: 0 }
     }
-    span
 }
 
 // How many literals all actions have: up to the last one of the latest action.
@@ -192,11 +200,12 @@ fn literals_in(head: &Head) -> usize
     if n == 0 {
         return 0;
     }
-    let to = first_of(head, n - 1) + wide(size_of(head, n - 1));
-    if MAX_LITERALS * MAX_ACTIONS < to {
-        return 0;
+    let to = first_of(head, n - 1) + usize::from(size_of(head, n - 1));
+    if to <= MAX_LITERALS * MAX_ACTIONS {
+        to
+    } else {
+        0
     }
-    to
 }
 
 // The same as rows of the table, 0 where it has not so many.
@@ -205,10 +214,7 @@ pub fn all_rows(head: &Head, table: &[u8]) -> usize
     ensures number { (D : Domain) → Held D head.now table.now → result ≡ length (all_literals D.actions) }
 {
     let n = literals_in(head);
-    if table.len() < 8 * n {
-        return 0;
-    }
-    n
+    if 8 * n <= table.len() { n } else { 0 }
 }
 
 // How many keys the template has with this component: the first component determines it.
@@ -219,9 +225,10 @@ pub fn keys_with(head: &Head, p: &[u8]) -> usize
     ensures few { result ≤ max_arguments }
 {
     if components_in(head) == 0 {
-        return count_keys(p);
+        count_keys(p)
+    } else {
+        keys_in(head)
     }
-    keys_in(head)
 }
 
 // The head with a relation more: its arity.
@@ -242,16 +249,17 @@ pub fn add_action(head: &mut Head, p: &[u8])
     ensures { Adds action_record p.now head.old head.new }
 {
     let n = actions_in(head);
-    let first = literals_in(head);
+    let [low, high] = (literals_in(head) as u16).to_le_bytes();
     head[VARIABLES + n] = p[0];
     head[SORTS + n] = p[1];
     head[SIZES + n] = 0;
-    head[LOWS + n] = (first % 256) as u8;
-    head[HIGHS + n] = (first / 256) as u8;
+    head[LOWS + n] = low;
+    head[HIGHS + n] = high;
     head[ACTIONS] = n as u8 + 1;
 }
 
 // Whether some literal of the domain has FF.
+#[tactic(auto, unfolding(crate::specs::Held::clears_in))]
 pub fn clears_in(head: &Head) -> bool
     ensures { result ≡ clears_in head.now }
 {
@@ -268,10 +276,9 @@ pub fn add_literal(head: &mut Head, last: usize, size: usize, clears: bool)
         → Adds literal_record p head.old head.new }
 {
     head[SIZES + last] = size as u8 + 1;
-    if !clears {
-        return;
+    if clears {
+        head[CLEARS] = 1;
     }
-    head[CLEARS] = 1;
 }
 
 // The head with a component more: its row, and the number of keys, which the first component determines.

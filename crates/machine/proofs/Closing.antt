@@ -7,9 +7,10 @@ use native.Mathlib.Omega.{arith}
 use lib.Dec.{eqb, ltb, leb}
 use lib.ListN.{length, take, replicate}
 use borrow.Author.Tests.{ne_eqb, lt-ltb, le-ltb, ltb-true, leb-true, leb-false}
+use Rattle.std.specs.Prelude.{Result, Ok, Err, is_err}
 use Rattle.records.specs.Lists.{In, filter_by, all, elem}
 use Rattle.records.specs.Memory.{over}
-use Rattle.records.proofs.Lists.{or_l, or_r}
+use Rattle.records.proofs.Lists.{clash, or_l, or_r}
 use Rattle.literals.specs.declared.Usage.TheVariants.{Delete}
 use Rattle.literals.specs.declared.Object.{Object}
 use Rattle.literals.specs.Domain.{Fact, same_fact, Domain}
@@ -22,9 +23,14 @@ use Rattle.store.specs.Held.{Indexed, top_from, FactFits}
 use Rattle.events.specs.Held.{Open, Waiting, open_of, waiting_of}
 use Rattle.run_semantics.specs.RunFile.{max_facts, max_running}
 use Rattle.run_semantics.specs.Play.{forbidden, too_large, held_bytes}
+use Rattle.run_semantics.specs.declared.Stop.{Stop}
+use Rattle.run_semantics.specs.Numbers.{stop_number, stopped_by}
 use Rattle.run_semantics.proofs.Allowed.{forbidden_by_own}
+use Rattle.run_semantics.proofs.Numbers.{numbered_stop}
 use Rattle.effects.specs.Held.{at_most}
-use Rattle.machine.specs.Held.{StateRows, state_of, Kept, close_stop, close_state, close_waiting, close_weight, Leaves}
+use Rattle.machine.specs.declared.State.{State as Counts}
+use Rattle.machine.specs.declared.step.Closed.{Closed}
+use Rattle.machine.specs.Held.{StateRows, state_of, state_in, Kept, close_stop, close_state, close_waiting, close_weight, state_left, weight_left, Leaves}
 use Rattle.machine.proofs.HeldBytes.{fits_few, held_settled, work_rows}
 use Rattle.machine.proofs.TopWeights.{top_after}
 use Rattle.machine.proofs.NextKept.{kept_next}
@@ -74,6 +80,12 @@ module _ (D : Domain) (objs : List Object) (s : State) (es : List Event) (old : 
   pub leaves_forbidden : (n : ℕ) → n ≡ forbidden D objs s es → (n ≡ 0 → ⊥) → (state : StateRows) → state ≡ state_of s es → (work : List ℕ) → work ≡ over (held_bytes s.facts) old → Leaves D objs s es old w n state w work
   unfolding close_stop
   leaves_forbidden n e z state h work m = let f : eqb (forbidden D objs s es) 0 ≡ false = rw (sym e) (ne_eqb n 0 z) in refused_by n (rw f (sym e)) z state h work m
+
+  -- an answer that stops it leaves counts, weight and agenda as they are
+  pub leaves_refused : (counts : Counts) (agenda : List ℕ) (r : Result Closed Stop) → is_err r ≡ true → stopped_by r ≡ forbidden D objs s es → state_in counts agenda ≡ state_of s es
+      → (work : List ℕ) → work ≡ over (held_bytes s.facts) old → Leaves D objs s es old w (stopped_by r) (state_in (state_left counts r) agenda) (weight_left w r) work
+  leaves_refused counts agenda (Ok closed) t e h work m = absurd (clash t refl)
+  leaves_refused counts agenda (Err stop) t e h work m = leaves_forbidden (stop_number stop) e (numbered_stop stop) _ h work m
 
   module _ (free : forbidden D objs s es ≡ 0) where
     stop_large : (b : Bool) → too_large (next D objs s es) ≡ b → close_stop D objs s es ≡ cond b 52 0

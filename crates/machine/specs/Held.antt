@@ -1,5 +1,5 @@
 -- The step's close, as the code holds it. Assumes nothing.
-use Rattle.std.specs.Prelude.{◌≡◌, true, cond, List, [], map, ℕ, ◌≤◌, max, eqb, length, get_or}
+use Rattle.std.specs.Prelude.{◌≡◌, true, cond, List, [], map, ℕ, ◌≤◌, max, eqb, length, get_or, Result, Ok, Err}
 use Rattle.records.specs.Lists.{In, all, distinct}
 use Rattle.records.specs.Memory.{over}
 use Rattle.literals.specs.declared.Object.{Object}
@@ -9,6 +9,8 @@ use Rattle.verdict.specs.Machine.{Event, State, next, top_weight, over_all_hold}
 use Rattle.verdict.specs.Held.{fact_row}
 use Rattle.store.specs.Held.{note_at, Indexed, FactFits}
 use Rattle.machine.specs.declared.State.{State as Counts}
+use Rattle.machine.specs.declared.step.Closed.{Closed}
+use Rattle.run_semantics.specs.declared.Stop.{Stop}
 use Rattle.run_semantics.specs.RunFile.{max_facts, max_running, max_events}
 use Rattle.run_semantics.specs.Play.{work_bytes, forbidden, too_large, held_bytes}
 use Rattle.events.specs.Held.{Open, Waiting, open_of, waiting_of, agenda_open, agenda_waiting, GroundsFit, EventsFit, OverObjects}
@@ -85,6 +87,15 @@ close_waiting D objs s es = cond (eqb (close_stop D objs s es) 0) [] es
 unfoldable pub close_weight : Domain → List Object → State → List Event → ℕ → ℕ
 unfolding close_stop next top_weight
 close_weight D objs s es w = cond (eqb (close_stop D objs s es) 0) (max w (top_weight D (next D objs s es).facts)) w
+
+-- the counts and the highest weight that an answer leaves: as they were where something stops the close
+abbrev pub state_left : Counts → Result Closed Stop → Counts
+state_left state (Ok closed) = closed.state
+state_left state (Err stop) = state
+
+abbrev pub weight_left : ℕ → Result Closed Stop → ℕ
+weight_left weight (Ok closed) = closed.weight
+weight_left weight (Err stop) = weight
 
 -- all that a close leaves, of the highest weight w before it and of work memory that was `old` before the run
 pub record Leaves (D : Domain) (objs : List Object) (s : State) (es : List Event) (old : List ℕ) (w : ℕ) (number : ℕ)

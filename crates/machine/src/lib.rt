@@ -6,7 +6,7 @@ pub mod step;
 
 // The machine's state, with the step that is read: how many facts are held, how many lasting actions are open, and how many events of the
 // step wait. Their rows are lent: the facts in work memory, entries and events in the agenda.
-#[derive(Clone, Copy)]
+#[derive(Clone, Copy, Debug, PartialEq, Eq)]
 pub struct State {
     pub facts: usize,
     pub opened: usize,

@@ -1,4 +1,5 @@
 -- Laws of the rows of a domain, one class or one action more at a time, and naming them. Assumes nothing.
+use Rattle.std.specs.Prelude.{Option, None, Some}
 use mathlib.Core.Path.{◌≡◌, refl, sym, ap, ap₂, ◌∙◌, subst}
 use mathlib.Core.Bool.{Bool, true, false, cond}
 use mathlib.Core.List.{List, [], ◌∷◌, ◌++◌, map, flat_map, map-append, append-nil, append_assoc}
@@ -17,9 +18,10 @@ use Rattle.literals.proofs.Tables.{pad_more}
 use Rattle.literals.proofs.Held.{rows_few}
 use Rattle.literals.proofs.Heads.{literals_after}
 use Rattle.literals.specs.declared.Moment.TheVariants.{Start, End}
-use Rattle.classes.specs.declared.Name.{Name}
 use Rattle.classes.specs.Classes.{moments_of, name_number, classes, name_of, journey}
 use Rattle.classes.specs.Held.{MomentOf, class_numbers, numbers_of, asked_usages, sole_at, reach_at}
+use Rattle.naming.specs.declared.EndName.{EndName}
+use Rattle.naming.specs.declared.ClassNames.{ClassNames}
 use Rattle.naming.specs.declared.Naming.{Naming}
 use Rattle.verdict.specs.declared.Summary.{Summary}
 use Rattle.verdict.specs.declared.Notes.{Notes}
@@ -27,7 +29,7 @@ use Rattle.verdict.specs.Decision.{Row, row_at, rows_of_classes, rows_from, rows
 use Rattle.verdict.specs.Claims.{well_formed}
 use Rattle.verdict.specs.Summaries.{summary_rows, summary_of, notes_of}
 use Rattle.verdict.specs.Held.{row_for}
-use Rattle.naming.specs.Held.{name_bytes, class_counts, EndOf, Listed, Named, naming_of}
+use Rattle.naming.specs.Held.{name_bytes, class_counts, class_names, EndOf, Listed, Named, naming_of}
 
 -- ---- one class or one action more
 
@@ -104,6 +106,21 @@ module _ (D : Domain) (a : Action) (i j : ℕ) (x : List Variable) where
   pub lasting_rows : a.lasting ≡ true → class_rows D a i j x ≡ row_at D a i j x Start ∷ row_at D a i j x End ∷ []
   lasting_rows l = ap (λ (b : Bool). map (row_at D a i j x) (cond b (Start ∷ End ∷ []) (Start ∷ []))) l
 
+-- the row of an end that has a name
+abbrev pub end_rows : ℕ → ℕ → Option EndName → List Row
+end_rows i j None = []
+end_rows i j (Some e) = row_for i j End e.name e.journey ∷ []
+
+-- the rows of a class, by its names
+pub named_rows : (D : Domain) (a : Action) (i j : ℕ) (x : List Variable)
+    → class_rows D a i j x ≡ row_for i j Start (class_names D a x).start false ∷ end_rows i j (class_names D a x).end
+named_rows D a i j x = go a.lasting
+  where
+    go : (b : Bool) → map (row_at D a i j x) (cond b (Start ∷ End ∷ []) (Start ∷ []))
+        ≡ row_for i j Start (name_of D a x Start) false ∷ end_rows i j (cond b (Some (record { name = name_of D a x End; journey = journey D a x })) None)
+    go true = refl
+    go false = refl
+
 -- ---- naming
 
 -- one row more
@@ -134,23 +151,12 @@ named_more before rs r n {m} names old v h N e f g =
       summed = f;
     }
 
--- the rows of a class, by their names
-module _ (D : Domain) (a : Action) (i j : ℕ) (x : List Variable) (before rs : List Row) {n : Naming} {names old : List ℕ} where
-  pub named_once : (s : Name) → a.lasting ≡ false → s ≡ name_of D a x Start
-      → Named before (rs ++ (row_for i j Start s false ∷ [])) n names old → Named before (rs ++ class_rows D a i j x) n names old
-  named_once s l e N = subst (λ (k : List Row). Named before (rs ++ k) n names old) (sym same) N
-    where
-      same : class_rows D a i j x ≡ row_for i j Start s false ∷ []
-      same = once_rows D a i j x l ∙ (λ k. row_for i j Start (sym e k) false ∷ [])
-
-  pub named_lasting : (s e : Name) (t : Bool) → a.lasting ≡ true → s ≡ name_of D a x Start → e ≡ name_of D a x End → t ≡ journey D a x
-      → Named before ((rs ++ (row_for i j Start s false ∷ [])) ++ (row_for i j End e t ∷ [])) n names old
-      → Named before (rs ++ class_rows D a i j x) n names old
-  named_lasting s e t l p q o N =
-      subst (λ (k : List Row). Named before k n names old) (append_assoc rs (_ ∷ []) (_ ∷ []) ∙ ap (λ (k : List Row). rs ++ k) (sym same)) N
-    where
-      same : class_rows D a i j x ≡ row_for i j Start s false ∷ row_for i j End e t ∷ []
-      same = lasting_rows D a i j x l ∙ (λ k. row_for i j Start (sym p k) false ∷ row_for i j End (sym q k) (sym o k) ∷ [])
+-- the rows of a class, by its names
+pub named_class : (D : Domain) (a : Action) (i j : ℕ) (x : List Variable) (before rs : List Row) {n : Naming} {names old : List ℕ} {c : ClassNames} → c ≡ class_names D a x
+    → Named before (rs ++ (row_for i j Start c.start false ∷ end_rows i j c.end)) n names old → Named before (rs ++ class_rows D a i j x) n names old
+named_class D a i j x before rs {n} {names} {old} e N =
+    subst (λ (k : List Row). Named before (rs ++ k) n names old)
+    (ap (λ (c : ClassNames). row_for i j Start c.start false ∷ end_rows i j c.end) e ∙ sym (named_rows D a i j x)) N
 
 -- the classes of an action, after k of them
 module _ (D : Domain) (a : Action) (i : ℕ) (xs : List (List Variable)) (before : List Row) {n : Naming} {names old : List ℕ} where

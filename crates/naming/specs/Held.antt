@@ -1,11 +1,13 @@
 -- How the code holds the names of all moments, and where naming stands. Assumes nothing.
-use Rattle.std.specs.Prelude.{◌≡◌, List, map, ◌++◌, ℕ, ◌+◌, ◌*◌, ◌≤◌, ◌<◌, length, get_or}
+use Rattle.std.specs.Prelude.{◌≡◌, cond, None, Some, List, map, ◌++◌, ℕ, ◌+◌, ◌*◌, ◌≤◌, ◌<◌, length, get_or}
 use Rattle.records.specs.Memory.{over}
 use Rattle.literals.specs.Decode.{max_literals}
 use Rattle.literals.specs.Domain.{Action, Domain}
-use Rattle.literals.specs.declared.Moment.TheVariants.{End}
-use Rattle.classes.specs.Classes.{name_number, classes}
+use Rattle.literals.specs.declared.Variable.{Variable}
+use Rattle.literals.specs.declared.Moment.TheVariants.{Start, End}
+use Rattle.classes.specs.Classes.{name_number, classes, name_of, journey}
 use Rattle.classes.specs.Held.{MomentOf, sole_of, sole_in, reach_at}
+use Rattle.naming.specs.declared.ClassNames.{ClassNames}
 use Rattle.naming.specs.declared.Naming.{Naming}
 use Rattle.naming.specs.declared.NamedDomain.{NamedDomain}
 use Rattle.verdict.specs.Decision.{Row, rows}
@@ -18,6 +20,14 @@ name_bytes rs = map (λ (r : Row). name_number r.name) rs
 -- how many classes each action has
 abbrev pub class_counts : Domain → List Action → List ℕ
 class_counts D as' = map (λ (a : Action). length (classes D a)) as'
+
+-- the names of the class with the key tuple x: at its start, and at its end where the action lasts
+abbrev pub class_names : Domain → Action → List Variable → ClassNames
+class_names D a x =
+    record {
+      start = name_of D a x Start;
+      end = cond a.lasting (Some (record { name = name_of D a x End; journey = journey D a x })) None;
+    }
 
 -- the true conditions and the adds of each class, by the usages at a moment: s is the section of its true conditions
 abbrev pub SolesIn : List ℕ → List ℕ → List ℕ → ℕ → Type 0

@@ -5,34 +5,40 @@ ghost use Rattle.std.specs.Prelude.{◌≡◌, true, List, [], ◌∷◌, ◌++�
 ghost use Rattle.records.specs.Memory.{over};
 ghost use Rattle.literals.specs.Domain.{Domain, Action};
 ghost use Rattle.literals.specs.Decode.{max_actions, max_literals};
-ghost use Rattle.literals.specs.Held.{pad, Held, Read, PlacesOf};
-ghost use Rattle.literals.specs.declared.Moment.TheVariants.{Start, End};
-ghost use Rattle.classes.specs.Classes.{moments_of, classes, name_of, journey};
+ghost use Rattle.literals.specs.Held.{pad, Held, Read};
+ghost use Rattle.literals.specs.declared.Moment.TheVariants.{Start};
+ghost use Rattle.classes.specs.Classes.{moments_of, classes};
 ghost use Rattle.classes.specs.Held.{ActionOf, MomentOf, Sides, class_numbers, numbers_of};
 ghost use Rattle.verdict.specs.Decision.{Row, row_at, rows_of_classes, rows};
 ghost use Rattle.verdict.specs.Claims.{well_formed};
 ghost use Rattle.verdict.specs.Summaries.{summary_of};
 ghost use Rattle.verdict.specs.Held.{row_for};
-ghost use Rattle.naming.specs.Held.{name_bytes, class_counts, SolesIn, EndOf, Listed, Named, naming_of};
+ghost use Rattle.naming.specs.Held.{name_bytes, class_counts, class_names, SolesIn, EndOf, Listed, Named, naming_of};
 
 use classes::names::{is_journey, name_at, note_soles, sole_in, usages_at};
 use classes::number::number_classes;
-use classes::{ASKED, AT_END, AT_START, Marks, Name, Soles, name_number};
+use classes::{ASKED, AT_END, AT_START, Count, Marks, Name, Soles};
 use literals::Moment;
 use literals::head::{Head, actions_in, is_lasting, rows_of};
-use literals::keys::{KEY_PLACES, KeyPlaces, put_places};
+use literals::key_places::Places;
 use literals::limits::{MAX_ACTIONS, MAX_LITERALS};
 use verdict::{Notes, Summary};
 
 // How many classes each action has.
 pub type ClassCounts = [u8; MAX_ACTIONS];
 
+// The name of an end, and whether it is a journey's.
+#[derive(Clone, Copy)]
+pub struct EndName {
+    pub name: Name,
+    pub journey: bool,
+}
+
 // The names of one class: at its start, and at its end where the action lasts.
 #[derive(Clone, Copy)]
 pub struct ClassNames {
     pub start: Name,
-    pub end: Name,
-    pub journey: bool,
+    pub end: Option<EndName>,
 }
 
 // An action whose classes are numbered: how many rows of the domain come before its own, how many classes it has, and whether it lasts.
@@ -81,39 +87,34 @@ fn name_class(
     requires first { SolesIn numbers.now at_start.now soles.now 0 }
     requires last { lasting ≡ true → SolesIn numbers.now at_end.now soles.now 2 }
     requires few { class < length numbers.now }
-    ensures start { (D : Domain) (a : Action)
-        → MomentOf D a Start head.now rows.now numbers.now at_start.now
-        → class < length (classes D a) → result.start ≡ name_of D a (get_or (classes D a) class []) Start }
-    ensures end { (D : Domain) (a : Action)
-        → MomentOf D a Start head.now rows.now numbers.now at_start.now
-        → EndOf D a head.now rows.now numbers.now at_end.now soles.now
-        → class < length (classes D a) → lasting ≡ true → a.lasting ≡ true
-        → (result.end ≡ name_of D a (get_or (classes D a) class []) End) × (result.journey ≡ journey D a (get_or (classes D a) class [])) }
+    ensures { (D : Domain) (a : Action)
+        → MomentOf D a Start head.now rows.now numbers.now at_start.now → a.lasting ≡ lasting
+        → (lasting ≡ true → EndOf D a head.now rows.now numbers.now at_end.now soles.now)
+        → class < length (classes D a) → result ≡ class_names D a (get_or (classes D a) class []) }
 {
     let number = class as u8;
     let first = sole_in(soles, AT_START, class);
     let start = name_at(
         head,
-        &rows[..],
-        &numbers[..],
+        rows,
+        numbers,
         at_start,
         first.conditions,
         first,
         number,
     );
-    if lasting {
-        let last = sole_in(soles, AT_END, class);
-        let asked = soles[MAX_LITERALS * ASKED + class];
-        return ClassNames {
-            start,
-            end: name_at(head, &rows[..], &numbers[..], at_end, asked, last, number),
-            journey: is_journey(&rows[..], &numbers[..], at_start, first, last, number),
-        };
+    if !lasting {
+        return ClassNames { start, end: None };
     }
+    let last = sole_in(soles, AT_END, class);
+    let asked = Count::from(soles[MAX_LITERALS * ASKED + class]);
+    let end = EndName {
+        name: name_at(head, rows, numbers, at_end, asked, last, number),
+        journey: is_journey(rows, numbers, at_start, first, last, number),
+    };
     ClassNames {
         start,
-        end: start,
-        journey: false,
+        end: Some(end),
     }
 }
 
@@ -143,35 +144,27 @@ impl Naming {
         ensures named { (before rs : List Row) (old : List ℕ) (i : ℕ) → Named before rs self names.old old
             → Named before (rs ++ (row_for i class moment name ended ∷ [])) result names.new old }
     {
-        let n = self.rows;
-        let rows = n + 1;
-        let summary = self.summary;
-        names[n] = name_number(name);
+        names[self.rows] = u8::from(name);
         Naming {
-            rows,
-            summary: summary.with(name, ended, class, moment),
+            rows: self.rows + 1,
+            summary: self.summary.with(name, ended, class, moment),
         }
     }
 
     // The rows of one class more.
-    fn with_class(self, class: u8, lasting: bool, named: ClassNames, names: &mut [u8]) -> Naming
+    fn with_class(self, class: u8, named: ClassNames, names: &mut [u8]) -> Naming
         requires room { self.rows + 2 ≤ length names.old }
         ensures rows { result.rows ≤ self.rows + 2 }
         ensures named { (before rs : List Row) (old : List ℕ) (D : Domain) (a : Action) (i : ℕ)
             → Named before rs self names.old old
-            → a.lasting ≡ lasting
-            → named.start ≡ name_of D a (get_or (classes D a) class []) Start
-            → (lasting ≡ true → (named.end ≡ name_of D a (get_or (classes D a) class []) End)
-            × (named.journey ≡ journey D a (get_or (classes D a) class [])))
+            → named ≡ class_names D a (get_or (classes D a) class [])
             → Named before (rs ++ map (row_at D a i class (get_or (classes D a) class [])) (moments_of a)) result names.new old }
     {
-        let start = named.start;
-        let end = named.end;
-        let started = self.with_row(start, false, class, Moment::Start, names);
-        if lasting {
-            return started.with_row(end, named.journey, class, Moment::End, names);
+        let started = self.with_row(named.start, false, class, Moment::Start, names);
+        match named.end {
+            Some(end) => started.with_row(end.name, end.journey, class, Moment::End, names),
+            None => started,
         }
-        started
     }
 }
 
@@ -202,20 +195,19 @@ impl NumberedAction {
             → Named before (rows_of_classes D a i 0 (classes D a)) result names.new old }
     {
         let count = self.classes;
-        let lasting = self.lasting;
         let mut next = Naming::new(self.rows);
         for class in 0..count {
             let named = name_class(
                 head,
-                &rows[..],
-                &numbers[..],
+                rows,
+                numbers,
                 at_start,
                 at_end,
                 soles,
                 class,
-                lasting,
+                self.lasting,
             );
-            next = next.with_class(class as u8, lasting, named, names);
+            next = next.with_class(class as u8, named, names);
         }
         next
     }
@@ -237,39 +229,21 @@ impl NumberedAction {
         let n = numbers.len();
         let mut soles = [0u8; 5 * MAX_LITERALS];
         let mut at_start = [0u8; MAX_LITERALS];
-        note_soles(&rows[..], &numbers[..], &mut soles);
-        usages_at(false, &rows[..], n, Moment::Start, &mut at_start);
-        if !self.lasting {
-            return self.name_each(
-                head,
-                &rows[..],
-                &numbers[..],
-                &at_start,
-                &at_start,
-                &soles,
-                names,
-            );
-        }
+        note_soles(rows, numbers, &mut soles);
+        usages_at(false, rows, n, Moment::Start, &mut at_start);
         let mut at_end = [0u8; MAX_LITERALS];
-        usages_at(false, &rows[..], n, Moment::End, &mut at_end);
-        self.name_each(
-            head,
-            &rows[..],
-            &numbers[..],
-            &at_start,
-            &at_end,
-            &soles,
-            names,
-        )
+        if self.lasting {
+            usages_at(false, rows, n, Moment::End, &mut at_end);
+        }
+        self.name_each(head, rows, numbers, &at_start, &at_end, &soles, names)
     }
 }
 
 // The rows of one action, whose literals are these rows, behind the `named` rows of the actions before it; `numbers` gets the class
-// number of each literal, from which its classes are known afterwards. The summary is of this action alone. (`places` has the components
-// of the relations and the places of the keys, and `words` is work memory for numbering.)
+// number of each literal, from which its classes are known afterwards. The summary is of this action alone. (`words` is work memory for
+// numbering.)
 pub fn name_action(
-    head: &Head,
-    places: &KeyPlaces,
+    places: &Places,
     rows: &[u8],
     numbers: &mut [u8],
     words: &mut [u64],
@@ -277,32 +251,30 @@ pub fn name_action(
     lasting: bool,
     names: &mut [u8],
 ) -> NamedAction
-    requires places { PlacesOf head.now places.now }
     requires rowed { length rows.now ≡ 8 * length numbers.old }
     requires literals { length numbers.old ≤ max_literals }
     requires words { length words.old ≡ max_literals }
     requires room { named + 2 * length numbers.old ≤ length names.old }
     ensures rows { result.rows ≤ named + 2 * length numbers.old }
     ensures classes { result.classes ≤ length numbers.old }
-    ensures numbers { (D : Domain) (a : Action) → ActionOf D a head.now rows.now
+    ensures numbers { (D : Domain) (a : Action) → ActionOf D a places.now.head.now rows.now
         → numbers.new ≡ class_numbers D a }
-    ensures named { (D : Domain) (a : Action) → ActionOf D a head.now rows.now → a.lasting ≡ lasting
+    ensures named { (D : Domain) (a : Action) → ActionOf D a places.now.head.now rows.now → a.lasting ≡ lasting
         → (before : List Row) (old : List ℕ) (i : ℕ) → Listed before named names.old old
         → (result.classes ≡ length (classes D a)) × (result.summary ≡ summary_of D a)
         × Listed (before ++ rows_of_classes D a i 0 (classes D a)) result.rows names.new old }
 {
-    let classes = number_classes(head, places, &rows[..], numbers, words);
+    let classes = number_classes(places, rows, numbers, words);
     let numbered = NumberedAction {
         rows: named,
         classes,
         lasting,
     };
-    let naming = numbered.name_classes(head, &rows[..], &numbers[..], names);
-    let summary = naming.summary;
+    let naming = numbered.name_classes(places.head, rows, numbers, names);
     NamedAction {
         rows: naming.rows,
         classes,
-        summary,
+        summary: naming.summary,
     }
 }
 
@@ -326,22 +298,16 @@ pub fn name_all(
         → (result ≡ naming_of D) × (counts.new ≡ pad max_actions (class_counts D D.actions))
         × (names.new ≡ over (name_bytes (rows D)) names.old) }
 {
-    let mut places = [0u8; KEY_PLACES];
-    put_places(head, &mut places);
+    let places = Places::of(head);
     let mut words = [0u64; MAX_LITERALS];
     let mut rows = 0;
     let mut notes = Notes::new();
     for i in 0..actions_in(head) {
         let span = rows_of(head, table, i);
-        let first = span.from;
-        let last = span.to;
-        let from = 8 * first;
-        let to = 8 * last;
         let named = name_action(
-            head,
             &places,
-            &table[from..to],
-            &mut numbers[first..last],
+            &table[8 * span.from..8 * span.to],
+            &mut numbers[span.from..span.to],
             &mut words,
             rows,
             is_lasting(head, i),
@@ -349,8 +315,7 @@ pub fn name_all(
         );
         rows = named.rows;
         counts[i] = named.classes as u8;
-        let summary = named.summary;
-        notes = notes.with(i as u8, summary);
+        notes = notes.with(i as u8, named.summary);
     }
     NamedDomain { rows, notes }
 }

@@ -8,7 +8,7 @@ use Prim.Native.Nat.{ℕ, ◌≤◌}
 use native.Mathlib.Omega.{arith}
 use lib.Dec.{eqb}
 use lib.ListN.{length, get_or, set, replicate, length-replicate, get_or-replicate}
-use borrow.Author.Tests.{eqb-true}
+use borrow.Author.Tests.{eqb-true, ne_eqb}
 use Rattle.records.specs.Lists.{elem}
 use Rattle.literals.specs.declared.Object.{Object}
 use Rattle.literals.specs.Domain.{Fact, same_fact, Domain}
@@ -17,10 +17,13 @@ use Rattle.literals.specs.Held.{arity_in, HeadOf}
 use Rattle.verdict.specs.Machine.{Event, State, next, top_weight}
 use Rattle.verdict.specs.Held.{fact_row}
 use Rattle.store.specs.Held.{note_at, fact_index, total_at, Indexed}
-use Rattle.run_semantics.specs.RunFile.{RunKind, objects_record, fact_record, event_record, step_record, end_record, other_record, run_kind_of}
+use Rattle.run_semantics.specs.RunFile.{RunKind, objects_record, fact_record, event_record, step_record, end_record, other_record}
 use Rattle.run_semantics.specs.RunFile.{fact_of, event_of, max_facts, objects_stop, fact_stop, event_stop, step_stop, end_stop}
 use Rattle.run_semantics.specs.Play.{Playing, PlayTurn, go_on, finish, stop_at, unless, begin, with_objects, with_fact, with_event, with_close}
 use Rattle.run_semantics.specs.Play.{before_run, run_objects, too_large, forbidden, after_step, close_step, play_record}
+use Rattle.run_semantics.specs.declared.Stop.{Stop}
+use Rattle.run_semantics.specs.Numbers.{stop_number}
+use Rattle.run_semantics.proofs.Numbers.{numbered_stop}
 use Rattle.machine.specs.Held.{Noted, close_stop, close_state}
 use Rattle.machine.proofs.Resting.{indexed_set, noted_anew, unset}
 use Rattle.player.specs.Held.{WholeTurn as Turn, Sound, PlayLeadsTo, NotedAfter}
@@ -38,6 +41,9 @@ module _ (D : Domain) (head index : List ℕ) where
       go : (b : Bool) → NotedAfter D head index (cond b t (stop_at n q))
       go true = h
       go false = tt
+
+  pub noted_stopped : (q : Playing) (stop : Stop) (n : ℕ) (t : PlayTurn) → stop_number stop ≡ n → NotedAfter D head index (unless n q t)
+  noted_stopped q stop n t e = let f : eqb n 0 ≡ false = ne_eqb n 0 (λ k. numbered_stop stop (e ∙ k)) in rw f tt
 
   -- the step's close
   module _ (q : Playing) (behind : ℕ) where
@@ -68,7 +74,7 @@ module _ (D : Domain) (head index : List ℕ) (q : Playing) where
   noted_begun h = h
 
   module _ (b : List ℕ) (behind : ℕ) where
-    pub noted_of : (k : ℕ) (kind : RunKind) → run_kind_of k ≡ kind → NotedAfter D head index (play_record D q kind b behind) → NotedAfter D head index (play_record D q (run_kind_of k) b behind)
+    pub noted_of : (k kind : RunKind) → k ≡ kind → NotedAfter D head index (play_record D q kind b behind) → NotedAfter D head index (play_record D q k b behind)
     noted_of k kind e h = rw e h
 
     -- nothing is open before there are objects, so that nothing is asked of it

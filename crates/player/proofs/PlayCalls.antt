@@ -2,71 +2,54 @@
 use mathlib.Core.Path.{◌≡◌, refl, sym, ap, ap₂, ◌∙◌}
 use mathlib.Core.Bool.{Bool, true, false, cond}
 use mathlib.Core.List.{List}
-use Prim.Native.Nat.{ℕ, ◌-◌, ◌≤◌, ◌<◌}
+use Prim.Native.Nat.{ℕ}
 use native.Mathlib.Omega.{arith}
 use lib.Dec.{eqb}
-use lib.ListN.{length, take, drop, length-drop, drop_of_length-le}
-use lib.Seq.{take_all}
+use lib.ListN.{length}
 use borrow.Author.Tests.{eqb-true, eq-eqb, ne_eqb, le-ltb}
 use Rattle.records.specs.Memory.{over}
 use Rattle.literals.specs.Domain.{Fact, Domain}
 use Rattle.literals.specs.Decode.{Decoded, domain}
 use Rattle.player.specs.declared.run.Ended.{Ended}
-use Rattle.player.specs.declared.play.Fault.{Fault}
-use Rattle.player.specs.declared.play.Fault.TheVariants.{Domain as InDomain, Run as InRun}
+use Rattle.player.specs.declared.play.Fault.TheVariants.{Run as InRun}
 use Rattle.player.specs.declared.play.PlayAnswer.{PlayAnswer}
 use Rattle.run_semantics.specs.RunFile.{entries_before, entries_up_to, begun_in}
 use Rattle.run_semantics.specs.Play.{work_bytes, Outcome, place_of, held_bytes, play_run, Returned, of_domain, of_run, Call, outcome_call, call_by}
 use Rattle.run_semantics.specs.Play.{call, played, work_after, returned, returned_bytes}
 use Rattle.run_semantics.specs.Claims.{final_of, AsMachine, PlaysAsMachine, StaysLow}
-use Rattle.player.specs.Held.{ended_of}
+use Rattle.run_semantics.specs.declared.Stop.{Stop}
+use Rattle.run_semantics.specs.Numbers.{stop_number}
+use Rattle.run_semantics.proofs.Numbers.{fifty}
+use Rattle.player.specs.declared.Ending.TheVariants.{Played, Stopped}
+use Rattle.player.specs.Held.{ending_number, WholeEnd, end_in, ended_of}
 use Rattle.player.specs.Called.{file_of, offset_of}
 use Rattle.player.specs.Held.{as_fault, fault_file, fault_offset, part_at, answer_of, answer_by}
 use Rattle.run_semantics.proofs.Never.{played_as_machine, weight_stays_low}
 
 -- ---- the answer of a run
 
-module _ (e : Ended) (o : Outcome) (is : e ≡ ended_of o) where
-  pub answer_played : e.number ≡ 2 → record { number = 2; place = 0; steps = e.tally.steps; weight = e.tally.weight; fault = InRun e.place } ≡ answer_by o
-  answer_played z =
-      let n : o.number ≡ 2 = sym (ap (λ (x : Ended). x.number) is) ∙ z in
+module _ (e : Ended) (o : Outcome) (is : end_in e ≡ ended_of o) where
+  pub answer_played : (number : ℕ) → number ≡ ending_number e.ending → e.ending ≡ Played → record { number = number; place = 0; steps = e.tally.steps; weight = e.tally.weight; fault = InRun e.place } ≡ answer_by o
+  answer_played number told z =
+      let n : o.number ≡ 2 = sym (ap (λ (x : WholeEnd). x.number) is) ∙ ap ending_number z in
       let f : eqb o.number 2 ≡ true = eq-eqb o.number 2 n in
-      λ i. record { number = sym n i; place = place_none f i; steps = (is i).tally.steps; weight = (is i).tally.weight; fault = InRun (is i).place }
+      λ i. record { number = (told ∙ ap (λ (x : WholeEnd). x.number) is) i; place = place_none f i; steps = (is i).tally.steps; weight = (is i).tally.weight; fault = InRun (is i).place }
     where
       place_none : eqb o.number 2 ≡ true → 0 ≡ cond (eqb o.number 2) 0 o.place
       place_none f = rw f
 
-  pub answer_stopped : (e.number ≡ 2 → ⊥) → record { number = e.number; place = e.place; steps = e.tally.steps; weight = e.tally.weight; fault = InRun e.place } ≡ answer_by o
-  answer_stopped z =
-      let f : eqb o.number 2 ≡ false = ne_eqb o.number 2 (λ k. z (ap (λ (x : Ended). x.number) is ∙ k)) in
-      λ i. record { number = (is i).number; place = (ap (λ (x : Ended). x.place) is ∙ place_is f) i; steps = (is i).tally.steps; weight = (is i).tally.weight; fault = InRun (is i).place }
+  pub answer_stopped : (number : ℕ) → number ≡ ending_number e.ending → (stop : Stop) → e.ending ≡ Stopped stop → record { number = number; place = e.place; steps = e.tally.steps; weight = e.tally.weight; fault = InRun e.place } ≡ answer_by o
+  answer_stopped number told stop z =
+      let f : eqb o.number 2 ≡ false = ne_eqb o.number 2 (λ k. not_two stop (sym (ap ending_number z) ∙ ap (λ (x : WholeEnd). x.number) is ∙ k)) in
+      λ i. record { number = (told ∙ ap (λ (x : WholeEnd). x.number) is) i; place = (ap (λ (x : WholeEnd). x.place) is ∙ place_is f) i; steps = (is i).tally.steps; weight = (is i).tally.weight; fault = InRun (is i).place }
     where
+      not_two : (s : Stop) → stop_number s ≡ 2 → ⊥
+      not_two s k = let l = fifty s in omega arith
+
       place_is : eqb o.number 2 ≡ false → o.place ≡ cond (eqb o.number 2) 0 o.place
       place_is f = rw f
 
 -- ---- the part
-
-rest_all : (l : List ℕ) (at : ℕ) → take (length l - at) (drop at l) ≡ drop at l
-rest_all l at = let n = length-drop at l in take_all (length l - at) (drop at l) (omega arith)
-
-rest_none : (l : List ℕ) (at : ℕ) → length l < at → take (length l - length l) (drop (length l) l) ≡ drop at l
-rest_none l at h =
-    let a : length l ≤ length l = omega arith in
-    let b : length l ≤ at = omega arith in
-    rest_all l (length l) ∙ drop_of_length-le l a ∙ sym (drop_of_length-le l b)
-
-module _ (d r : List ℕ) (at : ℕ) (f : Fault) where
-  pub domain_part : f ≡ InDomain at → take (length d - at) (drop at d) ≡ part_at d r f
-  domain_part e = rest_all d at ∙ sym (ap (part_at d r) e)
-
-  pub domain_past : f ≡ InDomain at → length d < at → take (length d - length d) (drop (length d) d) ≡ part_at d r f
-  domain_past e h = rest_none d at h ∙ sym (ap (part_at d r) e)
-
-  pub run_part : f ≡ InRun at → take (length r - at) (drop at r) ≡ part_at d r f
-  run_part e = rest_all r at ∙ sym (ap (part_at d r) e)
-
-  pub run_past : f ≡ InRun at → length r < at → take (length r - length r) (drop (length r) r) ≡ part_at d r f
-  run_past e h = rest_none r at h ∙ sym (ap (part_at d r) e)
 
 -- of the part that comes back
 pub fault_file_lem : (x : Returned) → fault_file (as_fault x) ≡ file_of x

@@ -10,13 +10,12 @@ use Rattle.records.proofs.Memory.{paste_front}
 use Rattle.literals.specs.Domain.{Domain}
 use Rattle.literals.specs.Held.{Bounded, Read}
 use Rattle.verdict.specs.Judged.{fact_bytes}
-use Rattle.player.specs.declared.run.Ended.{Ended}
 use Rattle.store.specs.Held.{fact_index}
 use Rattle.run_semantics.specs.Play.{work_bytes, Playing, before_run, Outcome, PlayTurn, go_on, finish, run_objects, held_bytes, play_step}
 use Rattle.run_semantics.specs.Play.{play_from, play_run}
 use Rattle.events.specs.Held.{open_of}
 use Rattle.machine.specs.Held.{Noted}
-use Rattle.player.specs.Held.{Whole as Player, WholeTurn as Turn, player_of, Stands, PlayLeadsTo, NotedAfter, Playable, ended_of}
+use Rattle.player.specs.Held.{Whole as Player, WholeTurn as Turn, player_of, Stands, PlayLeadsTo, NotedAfter, Playable, WholeEnd, ended_of}
 use Rattle.run_semantics.proofs.Loop.{play_more, play_done, play_at}
 use Rattle.player.proofs.Sound.{sound_on, sound_new}
 use Rattle.player.proofs.PlayTurns.{at_is}
@@ -116,7 +115,7 @@ module _ (D : Domain) (B : Bounded D) {head : List ℕ} (r old : List ℕ) (play
   pub loop_falls : t.number ≡ 0 → length r - t.player.at < length r - player.at
   loop_falls z = let f = (turned z).further in let n = (turned z).inside in omega arith
 
-  pub loop_ends : (t.number ≡ 0 → ⊥) → (ended : Ended)
+  pub loop_ends : (t.number ≡ 0 → ⊥) → (ended : WholeEnd)
       → ended ≡ record {
         number = t.number;
         place = t.player.at;

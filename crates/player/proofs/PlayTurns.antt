@@ -1,4 +1,7 @@
 -- What each record leads to, from what the code's calls promise. Assumes nothing.
+use Rattle.std.specs.Prelude.{Err, Option, Some, None, MatchOption}
+use Rattle.std.specs.Int.NonZero.{non_zero_u8_get}
+use Rattle.std.specs.declared.num.NonZeroU8.{NonZeroU8}
 use mathlib.Core.Path.{◌≡◌, refl, sym, ap, ap₂, ◌∙◌}
 use mathlib.Core.Bool.{Bool, true, false, cond}
 use mathlib.Core.List.{List, [], ◌∷◌, ◌++◌, map}
@@ -24,15 +27,22 @@ use Rattle.verdict.proofs.Objects.{object_in}
 use Rattle.verdict.specs.Held.{fact_row}
 use Rattle.events.specs.Held.{Waiting, entries_in, agenda_open, agenda_waiting, waiting_of}
 use Rattle.player.specs.declared.Player.{Player as Small}
-use Rattle.run_semantics.specs.RunFile.{objects_record, fact_record, event_record, step_record, end_record, other_record, run_kind_of, fact_of}
+use Rattle.run_semantics.specs.RunFile.{RunKind, objects_record, fact_record, event_record, step_record, end_record, other_record, run_kind_of, fact_of}
 use Rattle.run_semantics.specs.RunFile.{event_of, objects_stop, fact_stop, event_stop, step_stop, end_stop}
 use Rattle.run_semantics.specs.Play.{play_record, play_found, play_step, Playing, onward, PlayTurn, Tally, go_on, stop_at, start_tally, begin}
 use Rattle.run_semantics.specs.Play.{with_objects, joined, with_fact, with_event, with_close, unless, run_objects, forbidden, too_large}
 use Rattle.run_semantics.specs.Play.{after_step, close_step, held_bytes}
+use Rattle.run_semantics.specs.declared.Stop.{Stop}
+use Rattle.run_semantics.specs.Numbers.{stop_number}
+use Rattle.run_semantics.proofs.Numbers.{numbered_stop}
 use Rattle.store.specs.Held.{has_row, Few}
 use Rattle.machine.specs.declared.State.{State as Counts}
 use Rattle.machine.specs.Held.{StateRows, state_of, state_in, Noted, close_stop, close_state, close_waiting, close_weight, Leaves}
-use Rattle.player.specs.Held.{Whole as Player, WholeTurn as Turn, whole_in, player_of, Stands, PlayLeadsTo, NotedAfter}
+use Rattle.run_fields.specs.Held.{objects_or_0}
+use Rattle.player.specs.declared.Ending.{Ending}
+use Rattle.player.specs.declared.Ending.TheVariants.{Played, Stopped}
+use Rattle.player.specs.declared.Over.{Over}
+use Rattle.player.specs.Held.{Whole as Player, WholeTurn as Turn, whole_in, ending_number, turn_in, player_of, Stands, PlayLeadsTo, NotedAfter}
 use Rattle.events.proofs.FactRows.{has_fact}
 use Rattle.machine.proofs.HeldBytes.{fits_few, state_rows}
 use Rattle.machine.proofs.Resting.{no_events, rest_leaves}
@@ -51,13 +61,13 @@ pub gone_on : (self new : Small) (behind facts waits : ℕ) (agenda : List ℕ)
       state = record { facts = facts; opened = self.state.opened; waits = waits };
       tally = self.tally;
     }
-    → (new.at ≡ behind) × (new.closed ≡ false) × (new.objects ≡ self.objects)
+    → (new.at ≡ behind) × (new.closed ≡ false) × (objects_or_0 new.objects ≡ objects_or_0 self.objects)
     × ((whole_in new agenda).state ≡ state_in (record { facts = facts; opened = self.state.opened; waits = waits }) agenda)
     × ((whole_in new agenda).tally ≡ (whole_in self agenda).tally)
 gone_on self new behind facts waits agenda e = (
   ap (λ (x : Small). x.at) e,
   ap (λ (x : Small). x.closed) e,
-  ap (λ (x : Small). x.objects) e,
+  ap (λ (x : Small). objects_or_0 x.objects) e,
   ap (λ (x : Small). state_in x.state agenda) e,
   ap (λ (x : Small). (whole_in x agenda).tally) e,
 )
@@ -82,7 +92,7 @@ pub stepped_on : (self new : Small) (behind : ℕ) (counts : Counts) (weight : �
     → whole_in new agenda ≡ record {
       at = behind;
       closed = false;
-      objects = self.objects;
+      objects = objects_or_0 self.objects;
       state = state_in counts agenda;
       tally = record { begun = self.begun; steps = self.tally.steps + 1; weight = weight };
     }
@@ -107,8 +117,22 @@ module _ (D : Domain) (q : Playing) (player : Player) (work old : List ℕ) (st 
   pub stops : (n m : ℕ) (t : PlayTurn) → m ≡ n → (m ≡ 0 → ⊥) → PlayLeadsTo (unless n q t) (record { number = m; player = player }) work old
   stops n m t e z = let f : eqb n 0 ≡ false = ne_eqb n 0 (λ k. z (e ∙ k)) in rw f (stops_at n m e z)
 
-pub passes : (D : Domain) (q : Playing) (n m : ℕ) (t : PlayTurn) (turn : Turn) (work old : List ℕ) → m ≡ n → m ≡ 0 → PlayLeadsTo t turn work old → PlayLeadsTo (unless n q t) turn work old
-passes D q n m t turn work old e z h = let f : eqb n 0 ≡ true = eq-eqb n 0 (sym e ∙ z) in rw f h
+-- the same of the player that the code holds
+module _ (D : Domain) (q : Playing) (self : Small) (agenda work old : List ℕ) (st : Stands D q (whole_in self agenda) work old) (over : Over) (stop : Stop)
+    (is : over ≡ record { ending = Stopped stop; player = self }) where
+  pub stopped_at : PlayLeadsTo (stop_at (stop_number stop) q) (turn_in (Err over) agenda) work old
+  stopped_at = rw is (stops_at D q (whole_in self agenda) work old st (stop_number stop) (stop_number stop) refl (numbered_stop stop))
+
+  pub stopped_unless : (n : ℕ) (t : PlayTurn) → stop_number stop ≡ n → PlayLeadsTo (unless n q t) (turn_in (Err over) agenda) work old
+  stopped_unless n t e = rw is (stops D q (whole_in self agenda) work old st n (stop_number stop) t e (numbered_stop stop))
+
+pub passes : (D : Domain) (q : Playing) (n : ℕ) (t : PlayTurn) (turn : Turn) (work old : List ℕ) → n ≡ 0 → PlayLeadsTo t turn work old → PlayLeadsTo (unless n q t) turn work old
+passes D q n t turn work old z h = let f : eqb n 0 ≡ true = eq-eqb n 0 z in rw f h
+
+-- however playing ended, it has a number
+pub ending_some : (e : Ending) → ending_number e ≡ 0 → ⊥
+ending_some Played k = omega arith
+ending_some (Stopped stop) k = numbered_stop stop k
 
 -- what the player holds
 module _ (D : Domain) (q : Playing) {player : Player} {work old : List ℕ} (st : Stands D q player work old) where
@@ -170,6 +194,11 @@ module _ (D : Domain) (p : Playing) (player : Player) (work old : List ℕ) (st 
   begun_player tally e i = record { at = (st.is i).at; closed = (st.is i).closed; objects = (st.is i).objects; state = (st.is i).state; tally = e i }
 
 -- ---- kinds 16 and 20
+
+-- the count of a byte, none where it is 0
+pub counted : (o : Option NonZeroU8) (n : ℕ) → MatchOption o (n ≡ 0) (λ x. non_zero_u8_get x ≡ n) → objects_or_0 o ≡ n
+counted None n e = sym e
+counted (Some x) n e = e
 
 module _ (D : Domain) (q : Playing) (player : Player) (work old : List ℕ) (st : Stands D q player work old) (behind : ℕ) where
   pub objects_on : (b n : ℕ) → b ≡ n
@@ -312,6 +341,13 @@ module _ (D : Domain) (q : Playing) (behind : ℕ) where
             memory = work_now;
           })
 
+-- the same of the player that the code holds
+module _ (D : Domain) (q : Playing) (behind : ℕ) (self : Small) (agenda work old : List ℕ) (st : Stands D q (whole_in self agenda) work old) (over : Over) (stop : Stop)
+    (is : over ≡ record { ending = Stopped stop; player = self }) where
+  pub close_stopped : (state : StateRows) (weight : ℕ) (work' : List ℕ) → Leaves D (run_objects q) q.state q.waiting old self.tally.weight (stop_number stop) state weight work'
+      → PlayLeadsTo (close_step D q behind) (turn_in (Err over) agenda) work' old
+  close_stopped state weight work' l = rw is (close_stops D q behind (whole_in self agenda) work old st (stop_number stop) state weight work' l (numbered_stop stop))
+
 -- ---- a step without events
 
 module _ (D : Domain) (q : Playing) {player : Player} {work old : List ℕ} (st : Stands D q player work old)
@@ -332,70 +368,49 @@ module _ (D : Domain) (q : Playing) {player : Player} {work old : List ℕ} (st 
 
 -- ---- records by their kind
 
-module _ (k : ℕ) where
-  pub kind_16 : k ≡ 16 → run_kind_of k ≡ objects_record
-  kind_16 e = rw e
-
-  pub kind_17 : k ≡ 17 → run_kind_of k ≡ fact_record
-  kind_17 e = rw e
-
-  pub kind_18 : k ≡ 18 → run_kind_of k ≡ event_record
-  kind_18 e = rw e
-
-  pub kind_19 : k ≡ 19 → run_kind_of k ≡ step_record
-  kind_19 e = rw e
-
-  pub kind_20 : k ≡ 20 → run_kind_of k ≡ end_record
-  kind_20 e = rw e
-
-  pub kind_other : (k ≡ 16 → ⊥) → (k ≡ 17 → ⊥) → (k ≡ 18 → ⊥) → (k ≡ 19 → ⊥) → (k ≡ 20 → ⊥) → run_kind_of k ≡ other_record
-  kind_other a b c d e = rw (ne_eqb k 16 a, ne_eqb k 17 b, ne_eqb k 18 c, ne_eqb k 19 d, ne_eqb k 20 e)
-
-module _ (D : Domain) (q : Playing) (k : ℕ) (b : List ℕ) (behind : ℕ) (t : Turn) (work old : List ℕ) where
-  pub of_objects : run_kind_of k ≡ objects_record → PlayLeadsTo (unless (objects_stop q.objects b) q (go_on (with_objects q (byte b 0) behind))) t work old → PlayLeadsTo (play_record D q (run_kind_of k) b behind) t work old
+module _ (D : Domain) (q : Playing) (k : RunKind) (b : List ℕ) (behind : ℕ) (t : Turn) (work old : List ℕ) where
+  pub of_objects : k ≡ objects_record → PlayLeadsTo (unless (objects_stop q.objects b) q (go_on (with_objects q (byte b 0) behind))) t work old → PlayLeadsTo (play_record D q k b behind) t work old
   unfolding play_record
   of_objects e h = rw e h
 
-  pub of_fact : run_kind_of k ≡ fact_record → PlayLeadsTo (unless (fact_stop D q.objects q.tally.begun q.state.facts b) q (go_on (with_fact q (fact_of b) behind))) t work old → PlayLeadsTo (play_record D q (run_kind_of k) b behind) t work old
+  pub of_fact : k ≡ fact_record → PlayLeadsTo (unless (fact_stop D q.objects q.tally.begun q.state.facts b) q (go_on (with_fact q (fact_of b) behind))) t work old → PlayLeadsTo (play_record D q k b behind) t work old
   unfolding play_record
   of_fact e h = rw e h
 
-  pub of_event : run_kind_of k ≡ event_record → PlayLeadsTo (unless (event_stop D (begin D q).objects (begin D q).waiting b) (begin D q) (go_on (with_event (begin D q) (event_of b) behind))) t work old → PlayLeadsTo (play_record D q (run_kind_of k) b behind) t work old
+  pub of_event : k ≡ event_record → PlayLeadsTo (unless (event_stop D (begin D q).objects (begin D q).waiting b) (begin D q) (go_on (with_event (begin D q) (event_of b) behind))) t work old → PlayLeadsTo (play_record D q k b behind) t work old
   unfolding play_record begin
   of_event e h = rw e h
 
-  pub of_step : run_kind_of k ≡ step_record → PlayLeadsTo (unless (step_stop (begin D q).objects b) (begin D q) (close_step D (begin D q) behind)) t work old → PlayLeadsTo (play_record D q (run_kind_of k) b behind) t work old
+  pub of_step : k ≡ step_record → PlayLeadsTo (unless (step_stop (begin D q).objects b) (begin D q) (close_step D (begin D q) behind)) t work old → PlayLeadsTo (play_record D q k b behind) t work old
   unfolding play_record begin
   of_step e h = rw e h
 
-  pub of_end : run_kind_of k ≡ end_record → PlayLeadsTo (unless (end_stop (begin D q).objects (begin D q).waiting b) (begin D q) (go_on (with_close (begin D q) behind))) t work old → PlayLeadsTo (play_record D q (run_kind_of k) b behind) t work old
+  pub of_end : k ≡ end_record → PlayLeadsTo (unless (end_stop (begin D q).objects (begin D q).waiting b) (begin D q) (go_on (with_close (begin D q) behind))) t work old → PlayLeadsTo (play_record D q k b behind) t work old
   unfolding play_record begin
   of_end e h = rw e h
 
-  pub of_other : run_kind_of k ≡ other_record → PlayLeadsTo (stop_at 50 q) t work old
-      → PlayLeadsTo (play_record D q (run_kind_of k) b behind) t work old
+  pub leads_of : (j : RunKind) → k ≡ j → PlayLeadsTo (play_record D q j b behind) t work old → PlayLeadsTo (play_record D q k b behind) t work old
+  leads_of j e h = rw e h
+
+  pub of_other : k ≡ other_record → PlayLeadsTo (stop_at 50 q) t work old
+      → PlayLeadsTo (play_record D q k b behind) t work old
   unfolding play_record
   of_other e h = rw e h
 
--- a step's close, once the start counts: its record refused, or passed
+-- a step's close, once the start counts: its record is asked, and passes
 module _ (D : Domain) (q : Playing) (begun : Player) (work old : List ℕ) (st : Stands D (begin D q) begun work old) (b : List ℕ) (n : ℕ)
-    (e : n ≡ step_stop begun.objects b) (k : ℕ) (kind : run_kind_of k ≡ step_record) (behind : ℕ) where
-  stop_is : n ≡ step_stop (begin D q).objects b
+    (e : n ≡ step_stop begun.objects b) (k : RunKind) (kind : k ≡ step_record) (behind : ℕ) where
+  pub stop_is : n ≡ step_stop (begin D q).objects b
   stop_is = e ∙ ap (λ (m : ℕ). step_stop m b) (sym (objects_are D (begin D q) st))
-
-  pub step_refused : (n ≡ 0 → ⊥) → PlayLeadsTo (play_record D q (run_kind_of k) b behind) (record { number = n; player = begun }) work old
-  step_refused z =
-      of_step D q k b behind _ work old kind
-      (stops D (begin D q) begun work old st (step_stop (begin D q).objects b) n (close_step D (begin D q) behind) stop_is z)
 
   pub step_some : n ≡ 0 → (begin D q).objects ≡ 0 → ⊥
   step_some z = step_taken (begin D q).objects b (sym stop_is ∙ z)
 
   pub step_passed : n ≡ 0 → (t : Turn) (work' : List ℕ) → PlayLeadsTo (close_step D (begin D q) behind) t work' old
-      → PlayLeadsTo (play_record D q (run_kind_of k) b behind) t work' old
+      → PlayLeadsTo (play_record D q k b behind) t work' old
   step_passed z t work' h =
       of_step D q k b behind t work' old kind
-      (passes D (begin D q) (step_stop (begin D q).objects b) n (close_step D (begin D q) behind) t work' old stop_is z h)
+      (passes D (begin D q) (step_stop (begin D q).objects b) (close_step D (begin D q) behind) t work' old (sym stop_is ∙ z) h)
 
 -- ---- the next record
 
@@ -408,11 +423,11 @@ module _ (D : Domain) (r : List ℕ) (q : Playing) (player : Player) (work old :
   unfolding player_of
   at_is = ap (λ (x : Player). x.at) st.is
 
-  pub turn_behind : player.closed ≡ true → player.at < length r → PlayLeadsTo (play_step D r q) (record { number = 50; player = player }) work old
+  pub turn_behind : player.closed ≡ true → player.at < length r → (t : Turn) → PlayLeadsTo (stop_at 50 q) t work old → PlayLeadsTo (play_step D r q) t work old
   unfolding play_step
-  turn_behind c l =
+  turn_behind c l t h =
       let e = at_is in
-      rw (sym closed_is ∙ c, lt-ltb q.at (length r) (omega arith)) (stops_at D q player work old st 50 50 refl (λ z. omega arith))
+      rw (sym closed_is ∙ c, lt-ltb q.at (length r) (omega arith)) h
 
   pub turn_end : player.closed ≡ true → length r ≤ player.at
       → PlayLeadsTo (play_step D r q) (record { number = 2; player = player }) work old
@@ -428,13 +443,11 @@ module _ (D : Domain) (r : List ℕ) (q : Playing) (player : Player) (work old :
         ap (λ (b : Bool). cond b (cond (ltb q.at (length r)) (stop_at 50 q) (stop_at 2 q)) (play_found D r q (record_at r q.at))) (sym closed_is ∙ c)
         ∙ ap (play_found D r q) (ap (record_at r) (sym at_is) ∙ e)
 
-    pub turn_cut : record_at r player.at ≡ Cut → PlayLeadsTo (play_step D r q) (record { number = 50; player = player }) work old
+    pub turn_none : (f : Record) → f ≡ record_at r player.at → ((k start len : ℕ) → f ≡ Whole k start len → ⊥) → (t : Turn) → PlayLeadsTo (stop_at 50 q) t work old → PlayLeadsTo (play_step D r q) t work old
     unfolding play_found
-    turn_cut e = rw (found Cut e) (stops_at D q player work old st 50 50 refl (λ z. omega arith))
-
-    pub turn_none : record_at r player.at ≡ End → PlayLeadsTo (play_step D r q) (record { number = 50; player = player }) work old
-    unfolding play_found
-    turn_none e = rw (found End e) (stops_at D q player work old st 50 50 refl (λ z. omega arith))
+    turn_none (Whole k start len) e other t h = absurd (other k start len refl)
+    turn_none Cut e other t h = rw (found Cut (sym e)) h
+    turn_none End e other t h = rw (found End (sym e)) h
 
     pub turn_whole : (k start len : ℕ) → record_at r player.at ≡ Whole k start len → (t : Turn) (work' : List ℕ) (end : ℕ) → end ≡ start + len
         → PlayLeadsTo (play_record D q (run_kind_of k) (take (end - start) (drop start r)) end) t work' old
@@ -461,6 +474,13 @@ module _ (D : Domain) (B : Bounded D) (q : Playing) (player : Player) (work old 
 
   pub few_facts : Few q.state.facts
   few_facts = fits_few B q.state.facts st.sound.kept.facts
+
+  -- what is asked of it, by what the player holds
+  pub fact_asked : (n : ℕ) → ((fs : List Fact) → rows_in player.state.facts work ≡ map fact_row fs → player.state.facts ≡ length fs → Few fs → n ≡ fact_stop D player.objects player.tally.begun fs b)
+      → n ≡ fact_stop D q.objects q.tally.begun q.state.facts b
+  fact_asked n asks =
+      asks q.state.facts (facts_rows D q player work old st B) facts_count few_facts
+      ∙ ap₂ (λ (k : ℕ) (t : Bool). fact_stop D k t q.state.facts b) (sym (objects_are D q st)) (sym (begun_is D q st))
 
   module _ (z : fact_stop D q.objects q.tally.begun q.state.facts b ≡ 0) (row : List ℕ) (re : row ≡ fact_row (fact_of b)) (held : Bool) (he : held ≡ has_row row (rows_in player.state.facts work)) where
     passed : FactTaken D q b

@@ -9,6 +9,7 @@ use lib.ListN.{length, take, drop}
 use borrow.Author.Tests.{eq-eqb, ne_eqb, lt-ltb, le-ltb}
 use Rattle.records.specs.Lists.{In}
 use Rattle.records.specs.Memory.{over}
+use Rattle.records.specs.declared.Record.{Record}
 use Rattle.records.specs.declared.Record.TheVariants.{Whole, Cut, End}
 use Rattle.records.specs.Record.{record_at, payload}
 use Rattle.literals.specs.Domain.{Fact, keys_of, Domain}
@@ -22,10 +23,16 @@ use Rattle.player.specs.declared.play.Fault.TheVariants.{Domain as InDomain, Run
 use Rattle.player.specs.declared.play.PlayAnswer.{PlayAnswer}
 use Rattle.player.specs.declared.play.Tracked.{Tracked}
 use Rattle.player.specs.declared.run.Ended.{Ended}
-use Rattle.player.specs.Held.{ended_of}
+use Rattle.player.specs.Held.{WholeEnd, end_in, ended_of}
 use Rattle.run_semantics.specs.RunFile.{max_facts, outside, objects_stop}
 use Rattle.run_semantics.specs.Play.{work_bytes, before_run, outcome_at, held_bytes, play_run, outcome_call, call_by, call, work_after}
 use Rattle.run_semantics.specs.Play.{returned_bytes}
+use Rattle.run_semantics.specs.RunFile.{RunKind, objects_record, fact_record, event_record, step_record, end_record, other_record, run_kind_of}
+use Rattle.run_semantics.specs.declared.Stop.{Stop}
+use Rattle.run_fields.specs.Kinds.{KindOf}
+use Rattle.run_fields.specs.declared.kind.Kind.{Kind}
+use Rattle.run_fields.specs.declared.kind.Kind.TheVariants.{Objects, Fact as StartFact, Event, Step, End as Close}
+use Rattle.std.specs.Prelude.{Result, Ok, Err}
 use Rattle.run_semantics.specs.Track.{instance_of, count_of, count_given, objects_given, instance_stop, track_run, reported_total, track_by}
 use Rattle.run_semantics.specs.Track.{tracked}
 use Rattle.player.specs.Called.{file_of, offset_of}
@@ -57,10 +64,46 @@ module _ (D : Domain) (y r : List ℕ) (n : ℕ) (e : n ≡ objects_given r) whe
 
 -- ---- the object count that is given
 
+-- a record of the object count is one of kind 16
+abbrev pub is_objects : Result Kind Stop → Bool
+is_objects (Ok Objects) = true
+is_objects (Ok StartFact) = false
+is_objects (Ok Event) = false
+is_objects (Ok Step) = false
+is_objects (Ok Close) = false
+is_objects (Err s) = false
+
+pub objects_number : (n : ℕ) (r : Result Kind Stop) → KindOf n r → is_objects r ≡ eqb n 16
+objects_number n r e = told r e ∙ go (eqb n 16) (eqb n 17) (eqb n 18) (eqb n 19) (eqb n 20)
+  where
+    gives : RunKind → Bool
+    gives objects_record = true
+    gives fact_record = false
+    gives event_record = false
+    gives step_record = false
+    gives end_record = false
+    gives other_record = false
+
+    told : (r : Result Kind Stop) → KindOf n r → is_objects r ≡ gives (run_kind_of n)
+    told (Ok Objects) e = ap gives e
+    told (Ok StartFact) e = ap gives e
+    told (Ok Event) e = ap gives e
+    told (Ok Step) e = ap gives e
+    told (Ok Close) e = ap gives e
+    told (Err s) e = ap gives (sym e.1)
+
+    go : (a b c d e : Bool) → gives (cond a objects_record (cond b fact_record (cond c event_record (cond d step_record (cond e end_record other_record))))) ≡ a
+    go true b c d e = refl
+    go false true c d e = refl
+    go false false true d e = refl
+    go false false false true e = refl
+    go false false false false true = refl
+    go false false false false false = refl
+
 module _ (k : ℕ) (b : List ℕ) where
-  pub count_other : (k ≡ 16 → ⊥) → 0 ≡ count_of k b
+  pub count_other : eqb k 16 ≡ false → 0 ≡ count_of k b
   unfolding count_of
-  count_other n = rw (ne_eqb k 16 n)
+  count_other e = rw e
 
   pub count_stopped : (objects_stop 0 b ≡ 0 → ⊥) → 0 ≡ count_of k b
   unfolding count_of
@@ -70,9 +113,9 @@ module _ (k : ℕ) (b : List ℕ) where
       go true s e = rw e
       go false s e = refl
 
-  pub count_passed : k ≡ 16 → objects_stop 0 b ≡ 0 → byte b 0 ≡ count_of k b
+  pub count_passed : eqb k 16 ≡ true → objects_stop 0 b ≡ 0 → byte b 0 ≡ count_of k b
   unfolding count_of
-  count_passed e z = rw (eq-eqb k 16 e, eq-eqb (objects_stop 0 b) 0 z)
+  count_passed e z = rw (e, eq-eqb (objects_stop 0 b) 0 z)
 
 module _ (r : List ℕ) where
   pub given_whole : (k start len : ℕ) → record_at r 0 ≡ Whole k start len → (end : ℕ) → end ≡ start + len → (n : ℕ)
@@ -82,13 +125,11 @@ module _ (r : List ℕ) where
       let l : end - start ≡ len = omega arith in
       h ∙ ap (λ (m : ℕ). count_of k (take m (drop start r))) l ∙ sym (ap (count_given r) e)
 
-  pub given_cut : record_at r 0 ≡ Cut → 0 ≡ objects_given r
+  pub given_none : (f : Record) → f ≡ record_at r 0 → ((k start len : ℕ) → f ≡ Whole k start len → ⊥) → 0 ≡ objects_given r
   unfolding objects_given
-  given_cut e = sym (ap (count_given r) e)
-
-  pub given_none : record_at r 0 ≡ End → 0 ≡ objects_given r
-  unfolding objects_given
-  given_none e = sym (ap (count_given r) e)
+  given_none (Whole k start len) e other = absurd (other k start len refl)
+  given_none Cut e other = ap (count_given r) e
+  given_none End e other = ap (count_given r) e
 
 -- ---- playing with an instance
 
@@ -128,12 +169,12 @@ module _ (D : Domain) (y r : List ℕ) where
       same true = refl
       same false = refl
 
-  module _ (z : instance_stop D y r ≡ 0) (ended : Ended) (is : ended ≡ ended_of (play_run D r)) where
+  module _ (z : instance_stop D y r ≡ 0) (ended : Ended) (is : end_in ended ≡ ended_of (play_run D r)) where
     pub early_answer : ended.begun ≡ false → (a : PlayAnswer) → a ≡ answer_by (play_run D r)
         → (work old : List ℕ) → work ≡ over (held_bytes (play_run D r).facts) old → Told (record { played = a; total = 0 }) work old
     unfolding reported_total
     early_answer b a ae work old w =
-        let f : (play_run D r).begun ≡ false = sym (ap (λ (x : Ended). x.begun) is) ∙ b in
+        let f : (play_run D r).begun ≡ false = sym (ap (λ (x : WholeEnd). x.begun) is) ∙ b in
         rw (track_on z, f) ((λ i. record { played = ae i; total = 0 }), w)
 
     pub total_answer : ended.begun ≡ true → (a : PlayAnswer) → a ≡ answer_by (play_run D r)
@@ -141,7 +182,7 @@ module _ (D : Domain) (y r : List ℕ) where
         → (work old : List ℕ) → work ≡ over (held_bytes (play_run D r).facts) old → Told (record { played = a; total = t }) work old
     unfolding reported_total
     total_answer b a ae t te work old w =
-        let f : (play_run D r).begun ≡ true = sym (ap (λ (x : Ended). x.begun) is) ∙ b in
+        let f : (play_run D r).begun ≡ true = sym (ap (λ (x : WholeEnd). x.begun) is) ∙ b in
         rw (track_on z, f) ((λ i. record { played = ae i; total = te i }), w)
 
 -- ---- the call

@@ -1,19 +1,24 @@
 -- Where the player stands, as the code holds it, and what a record leads to. Assumes nothing.
 use Prim.{Unit}
-use Rattle.std.specs.Prelude.{◌≡◌, Bool, true, false, cond, List, [], ℕ, ◌≤◌, length, drop}
+use Rattle.std.specs.Prelude.{◌≡◌, Bool, true, false, cond, List, [], ℕ, ◌≤◌, length, drop, Result, Ok, Err}
 use Rattle.records.specs.Memory.{over}
 use Rattle.literals.specs.Domain.{Domain}
 use Rattle.literals.specs.Held.{HeadOf}
 use Rattle.verdict.specs.Machine.{top_weight}
 use Rattle.run_semantics.specs.RunFile.{max_objects}
 use Rattle.run_semantics.specs.Play.{work_bytes, Tally, Playing, PlayTurn, go_on, finish, Outcome, run_objects, held_bytes, place_of}
+use Rattle.run_semantics.specs.Numbers.{stop_number}
 use Rattle.run_semantics.specs.Play.{Returned, of_domain, of_run, Call, call}
 use Rattle.run_semantics.specs.Track.{Tracked as TrackedCall, tracked}
 use Rattle.events.specs.Held.{agenda_bytes, open_of, waiting_of}
 use Rattle.effects.specs.Held.{scratch_bytes}
 use Rattle.machine.specs.Held.{StateRows, state_of, state_in, Kept, Noted}
+use Rattle.run_fields.specs.Held.{objects_or_0}
+use Rattle.player.specs.declared.Tally.{Tally as Counted}
 use Rattle.player.specs.declared.Player.{Player}
-use Rattle.player.specs.declared.Turn.{Turn}
+use Rattle.player.specs.declared.Ending.{Ending}
+use Rattle.player.specs.declared.Ending.TheVariants.{Played, Stopped}
+use Rattle.player.specs.declared.Over.{Over}
 use Rattle.player.specs.declared.run.Ended.{Ended}
 use Rattle.player.specs.declared.play.Fault.{Fault}
 use Rattle.player.specs.declared.play.Fault.TheVariants.{Domain as InDomain, Run as InRun}
@@ -35,18 +40,24 @@ whole_in player agenda =
     record {
       at = player.at;
       closed = player.closed;
-      objects = player.objects;
+      objects = objects_or_0 player.objects;
       state = state_in player.state agenda;
       tally = record { begun = player.begun; steps = player.tally.steps; weight = player.tally.weight };
     }
+
+-- "number (2 when played)"
+abbrev pub ending_number : Ending → ℕ
+ending_number Played = 2
+ending_number (Stopped stop) = stop_number stop
 
 -- and with the number that ends playing, or 0
 pub record WholeTurn : Type 0 where
   pub number : ℕ
   pub player : Whole
 
-abbrev pub turn_in : Turn → List ℕ → WholeTurn
-turn_in turn agenda = record { number = turn.number; player = whole_in turn.player agenda }
+abbrev pub turn_in : Result Player Over → List ℕ → WholeTurn
+turn_in (Ok player) agenda = record { number = 0; player = whole_in player agenda }
+turn_in (Err over) agenda = record { number = ending_number over.ending; player = whole_in over.player agenda }
 
 -- where playing stands
 unfoldable pub player_of : Playing → Whole
@@ -125,7 +136,27 @@ pub record Playable (head : List ℕ) (player : Whole) (work index : List ℕ) :
 
 -- ---- how a run ends
 
-abbrev pub ended_of : Outcome → Ended
+-- with the number of how it ended
+pub record WholeEnd : Type 0 where
+  pub number : ℕ
+  pub place : ℕ
+  pub begun : Bool
+  pub tally : Counted
+  pub facts : ℕ
+  pub opened : ℕ
+
+abbrev pub end_in : Ended → WholeEnd
+end_in ended =
+    record {
+      number = ending_number ended.ending;
+      place = ended.place;
+      begun = ended.begun;
+      tally = ended.tally;
+      facts = ended.facts;
+      opened = ended.opened;
+    }
+
+abbrev pub ended_of : Outcome → WholeEnd
 ended_of o =
     record {
       number = o.number;

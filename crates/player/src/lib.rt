@@ -7,32 +7,56 @@ pub mod playing;
 pub mod run;
 pub mod track;
 
+ghost use Rattle.std.specs.Prelude.{◌≡◌};
+ghost use Rattle.player.specs.Held.{ending_number};
+
 use machine::State;
+use run_semantics::Stop;
+use std::num::NonZeroU8;
 
 // The tally of a run: the steps made, the highest weight.
-#[derive(Clone, Copy)]
+#[derive(Clone, Copy, Debug, PartialEq, Eq)]
 pub struct Tally {
     pub steps: usize,
     pub weight: usize,
 }
 
 // Where playing stands: the next record's offset, whether the run's close is read, whether the start is over (a record of kind 18 to 20
-// is met), the object count, 0 before its record, and the machine's state. The agenda, which is what is open and what
+// is met), the object count, once its record is read, and the machine's state. The agenda, which is what is open and what
 // waits, is in a memory of its own, as the facts are. (The small fields stand together: a single byte before a number leaves a gap
 // that is copied with every record, and slowly.)
-#[derive(Clone, Copy)]
+#[derive(Clone, Copy, Debug, PartialEq, Eq)]
 pub struct Player {
     pub at: usize,
     pub closed: bool,
     pub begun: bool,
-    pub objects: u8,
+    pub objects: Option<NonZeroU8>,
     pub state: State,
     pub tally: Tally,
 }
 
-// What a record led to: 0 where playing goes on, else the number that ends it.
-#[derive(Clone, Copy)]
-pub struct Turn {
-    pub number: u64,
+// How playing ends: the run is played to its close, or a record is stopped.
+#[derive(Clone, Copy, Debug, PartialEq, Eq)]
+pub enum Ending {
+    Played,
+    Stopped(Stop),
+}
+
+impl Ending {
+    // Its number in the answer of a call.
+    pub fn number(self) -> u64
+        ensures { result ≡ ending_number self }
+    {
+        match self {
+            Ending::Played => 2,
+            Ending::Stopped(stop) => stop.number(),
+        }
+    }
+}
+
+// Playing is over: how it ended, and where the player stands.
+#[derive(Clone, Copy, Debug, PartialEq, Eq)]
+pub struct Over {
+    pub ending: Ending,
     pub player: Player,
 }

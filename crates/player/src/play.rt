@@ -1,12 +1,14 @@
 // The call: a domain file, a run file, and lent work memory.
-ghost use Rattle.std.specs.Prelude.{◌≡◌, get_or};
+ghost use Rattle.std.specs.Prelude.{◌≡◌, ◌*◌, ◌≤◌, get_or, replicate};
+ghost use Rattle.literals.specs.Decode.{max_literals, max_actions};
 ghost use Rattle.reading.specs.Held.{EnoughTable};
 ghost use Rattle.run_semantics.specs.Play.{Outcome, call, played, work_after, returned, returned_bytes};
 ghost use Rattle.run_semantics.specs.Claims.{PlaysAsMachine, StaysLow};
-ghost use Rattle.player.specs.Held.{ended_of};
+ghost use Rattle.player.specs.Held.{end_in, ended_of};
 ghost use Rattle.player.specs.Called.{file_of, offset_of};
 ghost use Rattle.player.specs.Held.{fault_file, fault_offset, part_at, answer_of, answer_by, answer_unplayed, tracked_if, tracked_of};
 
+use super::Ending;
 use super::run::{Ended, WORK, play_run};
 use super::track::track_run;
 use events::AGENDA;
@@ -15,17 +17,25 @@ use literals::limits::{MAX_ACTIONS, MAX_LITERALS};
 use reading::read::read_domain;
 
 // How many literals the table of a small domain file has room for. A literal takes at least 6 bytes of the file, and 8 of the table.
-const SMALL: usize = 512;
+const FEW: usize = 512;
+
+const ALL: usize = MAX_LITERALS * MAX_ACTIONS;
+
+// The lengths of the tables.
+const FEW_ROWS: usize = 8 * FEW;
+
+const ALL_ROWS: usize = 8 * ALL;
 
 // Where the record at fault starts: an offset of the domain file, or of the run file.
-#[derive(Clone, Copy)]
+#[derive(Clone, Copy, Debug, PartialEq, Eq)]
 pub enum Fault {
     Domain(usize),
     Run(usize),
 }
 
-// The answer: the number (2 when the run was played), its place, the steps made, the highest weight, and the record at fault.
-#[derive(Clone, Copy)]
+// The answer: the number (2 when the run was played), its place, the steps made, the highest weight, and the record at fault. (Its number,
+// as the call of C answers it.)
+#[derive(Clone, Copy, Debug, PartialEq, Eq)]
 pub struct PlayAnswer {
     pub number: u64,
     pub place: usize,
@@ -35,13 +45,14 @@ pub struct PlayAnswer {
 }
 
 // The same with the total of an instance.
-#[derive(Clone, Copy)]
+#[derive(Clone, Copy, Debug, PartialEq, Eq)]
 pub struct Tracked {
     pub played: PlayAnswer,
     pub total: usize,
 }
 
-// The file of the record at fault: 0 the domain file, 1 the run file.
+// The file of the record at fault: 0 the domain file, 1 the run file. (No one function for the file and its offset: a pair would only be
+// taken apart again, as the calls answer each in a place of its own.)
 pub fn file_of(fault: Fault) -> u64
     ensures { result ≡ fault_file fault }
 {
@@ -56,55 +67,40 @@ pub fn offset_of(fault: Fault) -> usize
     ensures { result ≡ fault_offset fault }
 {
     match fault {
-        Fault::Domain(at) => at,
-        Fault::Run(at) => at,
+        Fault::Domain(at) | Fault::Run(at) => at,
     }
 }
 
 // The record at fault as a part of one of the two files, from there to the end. (Each offset is one of its
-// file; the test gives the checker the bound that the slice needs.)
+// file; the minimum gives the checker the bound that the slice needs.)
 pub fn part<'a>(domain: &'a [u8], run: &'a [u8], fault: Fault) -> &'a [u8]
     ensures { result.now ≡ part_at domain.now run.now fault }
 {
-    match fault {
-        Fault::Domain(at) => {
-            if at <= domain.len() {
-                return &domain[at..];
-            }
-            let n = domain.len();
-            &domain[n..]
-        }
-        Fault::Run(at) => {
-            if at <= run.len() {
-                return &run[at..];
-            }
-            let n = run.len();
-            &run[n..]
-        }
-    }
+    let (file, at) = match fault {
+        Fault::Domain(at) => (domain, at),
+        Fault::Run(at) => (run, at),
+    };
+    &file[at.min(file.len())..]
 }
 
 // What the end of a run tells: with 2 no record is at fault, and the empty end of the run file comes back.
 pub fn answer_by(ended: Ended) -> PlayAnswer
-    ensures { (o : Outcome) → ended ≡ ended_of o → result ≡ answer_by o }
+    ensures { (o : Outcome) → end_in ended ≡ ended_of o → result ≡ answer_by o }
 {
-    let place = ended.place;
     let tally = ended.tally;
-    if ended.number == 2 {
-        return PlayAnswer {
-            number: 2,
-            place: 0,
-            steps: tally.steps,
-            weight: tally.weight,
-            fault: Fault::Run(place),
-        };
-    }
-    PlayAnswer {
-        number: ended.number,
-        place,
+    let stopped = PlayAnswer {
+        number: ended.ending.number(),
+        place: ended.place,
         steps: tally.steps,
         weight: tally.weight,
-        fault: Fault::Run(place),
+        fault: Fault::Run(ended.place),
+    };
+    match ended.ending {
+        Ending::Played => PlayAnswer {
+            place: 0,
+            ..stopped
+        },
+        Ending::Stopped(_) => stopped,
     }
 }
 
@@ -121,32 +117,35 @@ fn unplayed(number: u64, place: usize, fault: Fault) -> PlayAnswer
     }
 }
 
-// A domain file, read into this table or refused 9 to 27, then 58 where the work memory is too small, then the run file; with an
-// instance where one is given, and without a total where none is.
-fn play_in(
+// A domain file, read into a table of this length or refused 9 to 27, then 58 where the work memory is too small, then the run file;
+// with an instance where one is given, and without a total where none is.
+fn play_in<const ROWS: usize>(
     domain: &[u8],
     run: &[u8],
     instance: &[u8],
     given: bool,
-    table: &mut [u8],
     work: &mut [u8],
 ) -> Tracked
-    requires { EnoughTable «domain».now table.old }
+    requires enough { EnoughTable «domain».now (replicate ROWS 0) }
+    requires few { ROWS ≤ 8 * (max_literals * max_actions) }
     ensures answer { result ≡ tracked_of (tracked_if given «domain».now instance.now run.now
         work.old) }
     ensures work { work.new ≡ (tracked_if given «domain».now instance.now run.now
         work.old).call.memory }
 {
     let mut head = [0u8; HEAD];
-    let read = read_domain(domain, &mut head, table);
-    let number = read.number;
-    let room = work.len();
-    if number != 0 {
+    let mut table = [0u8; ROWS];
+    if let Err(refusal) = read_domain(domain, &mut head, &mut table) {
         return Tracked {
-            played: unplayed(number, read.place, Fault::Domain(read.start)),
+            played: unplayed(
+                refusal.fault.number(),
+                refusal.place,
+                Fault::Domain(refusal.start),
+            ),
             total: 0,
         };
     }
+    let room = work.len();
     if room < WORK {
         return Tracked {
             played: unplayed(58, 0, Fault::Run(run.len())),
@@ -154,17 +153,17 @@ fn play_in(
         };
     }
     if given {
-        return track_run(&head, table, run, instance, work);
+        return track_run(&head, &table, run, instance, work);
     }
     let mut agenda = [0u8; AGENDA];
-    let ended = play_run(&head, table, run, work, &mut agenda);
+    let ended = play_run(&head, &table, run, work, &mut agenda);
     Tracked {
         played: answer_by(ended),
         total: 0,
     }
 }
 
-// The same with a table of its own: a small one for a small domain file, since clearing a large one would cost more than a short run.
+// The same: a small domain file gets a small table, since clearing a large one would cost more than a short run.
 pub fn play_with(
     domain: &[u8],
     run: &[u8],
@@ -177,12 +176,10 @@ pub fn play_with(
     ensures work { work.new ≡ (tracked_if given «domain».now instance.now run.now
         work.old).call.memory }
 {
-    if domain.len() <= 6 * SMALL {
-        let mut table = [0u8; 8 * SMALL];
-        return play_in(domain, run, instance, given, &mut table, work);
+    if domain.len() <= 6 * FEW {
+        return play_in::<FEW_ROWS>(domain, run, instance, given, work);
     }
-    let mut table = [0u8; 8 * MAX_LITERALS * MAX_ACTIONS];
-    play_in(domain, run, instance, given, &mut table, work)
+    play_in::<ALL_ROWS>(domain, run, instance, given, work)
 }
 
 // Plays a run file on a domain file.

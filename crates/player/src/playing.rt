@@ -3,15 +3,17 @@ ghost use Rattle.std.specs.Prelude.{◌≡◌, true, false, List, ℕ, ◌+◌, 
 ghost use Rattle.literals.specs.Domain.{Domain};
 ghost use Rattle.literals.specs.Decode.{byte};
 ghost use Rattle.literals.specs.Held.{HeadOf, Held};
-ghost use Rattle.run_semantics.specs.RunFile.{max_events, max_facts, run_kind_of, fact_of, event_of};
+ghost use Rattle.run_semantics.specs.RunFile.{max_events, max_facts, fact_of, event_of};
 ghost use Rattle.run_semantics.specs.RunFile.{objects_stop, fact_stop, event_stop, end_stop};
+ghost use Rattle.run_fields.specs.Kinds.{run_kind};
 ghost use Rattle.run_semantics.specs.Play.{work_bytes, Playing, before_run, go_on, unless, begin, with_objects, with_fact, run_objects};
 ghost use Rattle.run_semantics.specs.Play.{with_event, close_step, with_close, play_record, play_step};
 ghost use Rattle.machine.specs.Held.{Noted, Closable};
 ghost use Rattle.player.specs.Held.{whole_in, turn_in, player_of, Stands, Playable, RunMemory, PlayLeadsTo, NotedAfter};
 ghost use Rattle.events.specs.Held.{agenda_bytes};
+ghost use Rattle.player.specs.declared.Ending.TheVariants.{Stopped};
 
-use super::{Player, Tally, Turn};
+use super::{Ending, Over, Player, Tally};
 use events::grounding::GROUNDED;
 use events::waits::wait;
 use events::{AGENDA, EVENTS_AT, MOMENTS_AT};
@@ -20,9 +22,12 @@ use literals::limits::MAX_FACTS;
 use machine::State;
 use machine::step::rest;
 use records::{Record, record_at};
+use run_fields::kind::Kind;
 use run_fields::{
     end_stop, event_stop, fact_row, fact_stop, ground_row, objects_stop, put_fact, step_stop,
 };
+use run_semantics::Stop;
+use std::num::NonZeroU8;
 use store::index::{FactIndex, NOTE, enter, is_held};
 use store::weighing::top_from;
 
@@ -35,7 +40,7 @@ impl Player {
             at: 0,
             closed: false,
             begun: false,
-            objects: 0,
+            objects: None,
             state: State {
                 facts: 0,
                 opened: 0,
@@ -60,18 +65,14 @@ impl Player {
         if self.begun {
             return self;
         }
-        let state = self.state;
-        let top = top_from(head, work, state.facts, 0, 0, index);
+        let top = top_from(head, work, self.state.facts, 0, 0, index);
         Player {
-            at: self.at,
-            closed: self.closed,
             begun: true,
-            objects: self.objects,
-            state,
             tally: Tally {
                 steps: 0,
                 weight: top,
             },
+            ..self
         }
     }
 
@@ -86,51 +87,46 @@ impl Player {
           tally = self.tally;
         } }
     {
-        let tally = self.tally;
-        let state = self.state;
         Player {
             at: behind,
             closed: false,
-            begun: self.begun,
-            objects: self.objects,
             state: State {
                 facts,
-                opened: state.opened,
                 waits,
+                ..self.state
             },
-            tally,
+            ..self
+        }
+    }
+
+    // Playing is over where the player stands, by what stops the record there.
+    fn stopped(self, stop: Stop) -> Over
+        ensures { result ≡ record { ending = Stopped stop; player = self } }
+    {
+        Over {
+            ending: Ending::Stopped(stop),
+            player: self,
         }
     }
 
     // Kind 16: the object count.
-    fn take_objects(self, p: &[u8], behind: usize) -> Turn
+    fn take_objects(self, p: &[u8], behind: usize) -> Result<Player, Over>
         ensures { (D : Domain) (q : Playing) (agenda work old : List ℕ) → Stands D q (whole_in self agenda) work old
             → PlayLeadsTo (unless (objects_stop q.objects p.now) q (go_on (with_objects q (byte p.now 0) behind)))
             (turn_in result agenda) work old }
     {
-        let number = objects_stop(self.objects, p);
-        if number != 0 {
-            return Turn {
-                number,
-                player: self,
-            };
+        if let Err(stop) = objects_stop(self.objects, p) {
+            return Err(self.stopped(stop));
         }
-        let state = self.state;
-        let tally = self.tally;
-        Turn {
-            number: 0,
-            player: Player {
-                at: behind,
-                closed: false,
-                begun: self.begun,
-                objects: p[0],
-                state,
-                tally,
-            },
-        }
+        Ok(Player {
+            at: behind,
+            closed: false,
+            objects: NonZeroU8::new(p[0]),
+            ..self
+        })
     }
 
-    // Kind 17: a start fact; one that is held already changes nothing. (There is room for a new one, as `fact_stop` gives 52
+    // Kind 17: a start fact; one that is held already changes nothing. (There is room for a new one, as `fact_stop` says
     // otherwise; the test gives the checker the bound.)
     fn take_fact(
         self,
@@ -139,7 +135,7 @@ impl Player {
         index: &mut FactIndex,
         p: &[u8],
         behind: usize,
-    ) -> Turn
+    ) -> Result<Player, Over>
         requires few { self.state.facts ≤ max_facts }
         requires work { work_bytes ≤ length work.old }
         ensures leads { (D : Domain) (q : Playing) (agenda old : List ℕ) → HeadOf D head.now
@@ -154,40 +150,31 @@ impl Player {
             (unless (fact_stop D q.objects q.tally.begun q.state.facts p.now) q
             (go_on (with_fact q (fact_of p.now) behind))) }
     {
-        let tally = self.tally;
-        let state = self.state;
-        let n = state.facts;
-        let number = fact_stop(head, self.objects, self.begun, work, n, p);
-        if number != 0 {
-            return Turn {
-                number,
-                player: self,
-            };
+        let n = self.state.facts;
+        if let Err(stop) = fact_stop(head, self.objects, self.begun, work, n, p) {
+            return Err(self.stopped(stop));
         }
         let row = fact_row(p);
         if is_held(index, work, n, row) {
-            return Turn {
-                number: 0,
-                player: self.onward(behind, n, state.waits),
-            };
+            return Ok(self.onward(behind, n, self.state.waits));
         }
         if MAX_FACTS <= n {
-            return Turn {
-                number: 52,
-                player: self,
-            };
+            return Err(self.stopped(Stop::TooMany));
         }
         put_fact(work, n, row);
         enter(index, head, &row, 0);
         index[NOTE] = 0;
-        Turn {
-            number: 0,
-            player: self.onward(behind, n + 1, state.waits),
-        }
+        Ok(self.onward(behind, n + 1, self.state.waits))
     }
 
     // Kind 18: an event.
-    fn take_event(self, head: &Head, agenda: &mut [u8], p: &[u8], behind: usize) -> Turn
+    fn take_event(
+        self,
+        head: &Head,
+        agenda: &mut [u8],
+        p: &[u8],
+        behind: usize,
+    ) -> Result<Player, Over>
         requires few { self.state.waits ≤ max_events }
         requires agenda { length agenda.old ≡ agenda_bytes }
         ensures { (D : Domain) (q : Playing) (work old : List ℕ) → HeadOf D head.now
@@ -195,27 +182,14 @@ impl Player {
             → PlayLeadsTo (unless (event_stop D q.objects q.waiting p.now) q
             (go_on (with_event q (event_of p.now) behind))) (turn_in result agenda.new) work old }
     {
-        let state = self.state;
-        let n = state.waits;
-        let number = event_stop(
-            head,
-            self.objects,
-            &agenda[MOMENTS_AT..EVENTS_AT],
-            &agenda[EVENTS_AT..AGENDA],
-            n,
-            p,
-        );
-        if number != 0 {
-            return Turn {
-                number,
-                player: self,
-            };
+        let n = self.state.waits;
+        let moments = &agenda[MOMENTS_AT..EVENTS_AT];
+        let rows = &agenda[EVENTS_AT..AGENDA];
+        if let Err(stop) = event_stop(head, self.objects, moments, rows, n, p) {
+            return Err(self.stopped(stop));
         }
         wait(agenda, n, p[0], ground_row(p));
-        Turn {
-            number: 0,
-            player: self.onward(behind, state.facts, n + 1),
-        }
+        Ok(self.onward(behind, self.state.facts, n + 1))
     }
 
     // The player behind a step that was made, with the state after it and the highest weight.
@@ -235,13 +209,12 @@ impl Player {
         Player {
             at: behind,
             closed: false,
-            begun: self.begun,
-            objects: self.objects,
             state,
             tally: Tally {
                 steps: tally.steps + 1,
                 weight,
             },
+            ..self
         }
     }
 
@@ -255,7 +228,7 @@ impl Player {
         agenda: &[u8],
         scratch: &mut [u8],
         behind: usize,
-    ) -> Turn
+    ) -> Result<Player, Over>
         requires closable { Closable self.state.facts work.now }
         requires steps { self.tally.steps ≤ self.at }
         requires further { self.at < behind }
@@ -270,27 +243,11 @@ impl Player {
             → q.tally.begun ≡ true → Noted D (run_objects q) head.now index.old q.state
             → NotedAfter D head.now index.new (close_step D q behind) }
     {
-        let state = self.state;
-        let tally = self.tally;
-        let number = rest(
-            head,
-            table,
-            agenda,
-            state,
-            &mut scratch[0..GROUNDED],
-            index,
-            work,
-        );
-        if number != 0 {
-            return Turn {
-                number,
-                player: self,
-            };
+        let memory = &mut scratch[0..GROUNDED];
+        if let Err(stop) = rest(head, table, agenda, self.state, memory, index, work) {
+            return Err(self.stopped(stop));
         }
-        Turn {
-            number: 0,
-            player: self.stepped(behind, state, tally.weight),
-        }
+        Ok(self.stepped(behind, self.state, self.tally.weight))
     }
 
     // Kind 19, whose record passed: the step's close.
@@ -303,7 +260,7 @@ impl Player {
         agenda: &mut [u8],
         scratch: &mut [u8],
         behind: usize,
-    ) -> Turn
+    ) -> Result<Player, Over>
         requires closable { Closable self.state.facts work.old }
         requires steps { self.tally.steps ≤ self.at }
         requires further { self.at < behind }
@@ -317,92 +274,80 @@ impl Player {
             → (q.objects ≡ 0 → ⊥) → q.tally.begun ≡ true → Noted D (run_objects q) head.now index.old q.state
             → NotedAfter D head.now index.new (close_step D q behind) }
     {
-        let state = self.state;
-        if state.waits == 0 {
+        if self.state.waits == 0 {
             return self.take_rest(head, table, work, index, agenda, scratch, behind);
         }
-        let tally = self.tally;
-        let closed = state.step(head, table, agenda, work, tally.weight, index, scratch);
-        let stop = closed.number;
-        if stop != 0 {
-            return Turn {
-                number: stop,
-                player: self,
-            };
-        }
-        Turn {
-            number: 0,
-            player: self.stepped(behind, closed.state, closed.weight),
+        let weight = self.tally.weight;
+        match self
+            .state
+            .step(head, table, agenda, work, weight, index, scratch)
+        {
+            Ok(closed) => Ok(self.stepped(behind, closed.state, closed.weight)),
+            Err(stop) => Err(self.stopped(stop)),
         }
     }
 
     // Kind 20: the run's close.
-    fn take_end(self, p: &[u8], behind: usize) -> Turn
+    fn take_end(self, p: &[u8], behind: usize) -> Result<Player, Over>
         ensures { (D : Domain) (q : Playing) (agenda work old : List ℕ) → Stands D q (whole_in self agenda) work old
             → PlayLeadsTo (unless (end_stop q.objects q.waiting p.now) q (go_on (with_close q behind)))
             (turn_in result agenda) work old }
     {
-        let tally = self.tally;
-        let state = self.state;
-        let number = end_stop(self.objects, state.waits, p);
-        if number != 0 {
-            return Turn {
-                number,
-                player: self,
-            };
+        if let Err(stop) = end_stop(self.objects, self.state.waits, p) {
+            return Err(self.stopped(stop));
         }
-        Turn {
-            number: 0,
-            player: Player {
-                at: behind,
-                closed: true,
-                begun: self.begun,
-                objects: self.objects,
-                state,
-                tally,
-            },
-        }
+        Ok(Player {
+            at: behind,
+            closed: true,
+            ..self
+        })
     }
 
-    // A record of any kind but 19, which alone needs the domain's literals; the start is over once one of kind 18 or 20 is met.
+    // A record of any kind; the start is over once one of kind 18 to 20 is met. (A `match`: each kind is taken by a method of its own, of
+    // other arguments.)
     fn take_run_record(
         self,
         head: &Head,
+        table: &[u8],
         work: &mut [u8],
         index: &mut FactIndex,
         agenda: &mut [u8],
-        kind: u16,
+        scratch: &mut [u8],
+        kind: Kind,
         p: &[u8],
         behind: usize,
-    ) -> Turn
+    ) -> Result<Player, Over>
         requires playable { Playable head.now (whole_in self agenda.old) work.old index.old }
-        requires agenda { length agenda.old ≡ agenda_bytes }
-        requires other { kind ≡ 19 → ⊥ }
-        ensures leads { (D : Domain) (q : Playing) (old : List ℕ) → HeadOf D head.now
+        requires memory { RunMemory agenda.old scratch.old }
+        requires further { self.at < behind }
+        ensures leads { (D : Domain) (q : Playing) (old : List ℕ) → Held D head.now table.now
             → Stands D q (whole_in self agenda.old) work.old old
             → Noted D (run_objects q) head.now index.old q.state
-            → PlayLeadsTo (play_record D q (run_kind_of kind) p.now behind) (turn_in result agenda.new)
+            → PlayLeadsTo (play_record D q (run_kind kind) p.now behind) (turn_in result agenda.new)
             work.new old }
-        ensures noted { (D : Domain) (q : Playing) (old : List ℕ) → HeadOf D head.now
+        ensures noted { (D : Domain) (q : Playing) (old : List ℕ) → Held D head.now table.now
             → Stands D q (whole_in self agenda.old) work.old old
             → Noted D (run_objects q) head.now index.old q.state
-            → NotedAfter D head.now index.new (play_record D q (run_kind_of kind) p.now behind) }
+            → NotedAfter D head.now index.new (play_record D q (run_kind kind) p.now behind) }
     {
         match kind {
-            16 => self.take_objects(p, behind),
-            17 => self.take_fact(head, work, index, p, behind),
-            18 => {
+            Kind::Objects => self.take_objects(p, behind),
+            Kind::Fact => self.take_fact(head, work, index, p, behind),
+            Kind::Event => {
                 let begun = self.begin(head, work, index);
                 begun.take_event(head, agenda, p, behind)
             }
-            20 => {
+            Kind::Step => {
+                let begun = self.begin(head, work, index);
+                if let Err(stop) = step_stop(begun.objects, p) {
+                    return Err(begun.stopped(stop));
+                }
+                begun.take_step(head, table, work, index, agenda, scratch, behind)
+            }
+            Kind::End => {
                 let begun = self.begin(head, work, index);
                 begun.take_end(p, behind)
             }
-            _ => Turn {
-                number: 50,
-                player: self,
-            },
         }
     }
 
@@ -416,7 +361,7 @@ impl Player {
         index: &mut FactIndex,
         agenda: &mut [u8],
         scratch: &mut [u8],
-    ) -> Turn
+    ) -> Result<Player, Over>
         requires playable { Playable head.now (whole_in self agenda.old) work.old index.old }
         requires memory { RunMemory agenda.old scratch.old }
         ensures leads { (D : Domain) (q : Playing) (old : List ℕ) → Held D head.now table.now
@@ -431,41 +376,22 @@ impl Player {
         let at = self.at;
         if self.closed {
             if at < run.len() {
-                return Turn {
-                    number: 50,
-                    player: self,
-                };
+                return Err(self.stopped(Stop::Malformed));
             }
-            return Turn {
-                number: 2,
+            return Err(Over {
+                ending: Ending::Played,
                 player: self,
-            };
+            });
         }
-        match record_at(run, at) {
-            Record::Whole { kind, start, len } => {
-                let end = start + len;
-                let p = &run[start..end];
-                if kind != 19 {
-                    return self.take_run_record(head, work, index, agenda, kind, p, end);
-                }
-                let begun = self.begin(head, work, index);
-                let number = step_stop(begun.objects, p);
-                if number != 0 {
-                    return Turn {
-                        number,
-                        player: begun,
-                    };
-                }
-                begun.take_step(head, table, work, index, agenda, scratch, end)
-            }
-            Record::Cut => Turn {
-                number: 50,
-                player: self,
-            },
-            Record::End => Turn {
-                number: 50,
-                player: self,
-            },
-        }
+        let Record::Whole { kind, start, len } = record_at(run, at) else {
+            return Err(self.stopped(Stop::Malformed));
+        };
+        let kind = match Kind::try_from(kind) {
+            Ok(kind) => kind,
+            Err(stop) => return Err(self.stopped(stop)),
+        };
+        let end = start + len;
+        let p = &run[start..end];
+        self.take_run_record(head, table, work, index, agenda, scratch, kind, p, end)
     }
 }

@@ -6,10 +6,10 @@ ghost use Rattle.literals.specs.Held.{Held, Read};
 ghost use Rattle.store.specs.Held.{fact_index};
 ghost use Rattle.effects.specs.Held.{scratch_bytes};
 ghost use Rattle.run_semantics.specs.Play.{work_bytes, held_bytes, play_run};
-ghost use Rattle.player.specs.Held.{ended_of};
+ghost use Rattle.player.specs.Held.{end_in, ended_of};
 ghost use Rattle.events.specs.Held.{agenda_bytes, agenda_open, open_of};
 
-use super::{Player, Tally, Turn};
+use super::{Ending, Over, Player, Tally};
 use effects::SCRATCH;
 use literals::head::Head;
 use literals::limits::MAX_FACTS;
@@ -19,11 +19,11 @@ use store::index::{FACT_INDEX, FactIndex};
 // The bytes of the facts in the work memory.
 pub const WORK: usize = 8 * MAX_FACTS;
 
-// How a run ended: the number (2 when it was played), the offset of the record at fault, whether the start was over, what was counted,
-// and how many facts are held and how many entries are open.
-#[derive(Clone, Copy)]
+// How a run ended, the offset of the record at fault, whether the start was over, what was counted, and how many facts are held and how
+// many entries are open.
+#[derive(Clone, Copy, Debug, PartialEq, Eq)]
 pub struct Ended {
-    pub number: u64,
+    pub ending: Ending,
     pub place: usize,
     pub begun: bool,
     pub tally: Tally,
@@ -31,22 +31,23 @@ pub struct Ended {
     pub opened: usize,
 }
 
-// How a run ended that stopped by a number where the player stands.
-fn ended_by(number: u64, last: Player) -> Ended
+// How a run ended where playing is over.
+fn ended_by(over: Over) -> Ended
     ensures { result ≡ record {
-      number = number;
-      place = last.at;
-      begun = last.begun;
-      tally = last.tally;
-      facts = last.state.facts;
-      opened = last.state.opened;
+      ending = over.ending;
+      place = over.player.at;
+      begun = over.player.begun;
+      tally = over.player.tally;
+      facts = over.player.state.facts;
+      opened = over.player.state.opened;
     } }
 {
+    let last = over.player;
     let at = last.at;
     let tally = last.tally;
     let state = last.state;
     Ended {
-        number,
+        ending: over.ending,
         place: at,
         begun: last.begun,
         tally,
@@ -74,23 +75,16 @@ fn play_records(
     requires scratch { length scratch.old ≡ scratch_bytes }
     ensures { (D : Domain) (old : List ℕ) → Held D head.now table.now
         → work.old ≡ over (held_bytes []) old
-        → (result ≡ ended_of (play_run D run.now))
+        → (end_in result ≡ ended_of (play_run D run.now))
         × (work.new ≡ over (held_bytes (play_run D run.now).facts) old)
         × (agenda_open result.opened agenda.new ≡ open_of (play_run D run.now).running) }
 {
-    let mut turn = Turn {
-        number: 0,
-        player: Player::new(),
-    };
+    let mut player = Player::new();
     loop {
-        let player = turn.player;
-        turn = player.step(head, table, run, work, index, agenda, scratch);
-        let number = turn.number;
-        if number == 0 {
-            continue;
+        match player.step(head, table, run, work, index, agenda, scratch) {
+            Ok(next) => player = next,
+            Err(over) => return ended_by(over),
         }
-        let last = turn.player;
-        return ended_by(number, last);
     }
 }
 
@@ -100,7 +94,7 @@ pub fn play_run(head: &Head, table: &[u8], run: &[u8], work: &mut [u8], agenda: 
     requires room { work_bytes ≤ length work.old }
     requires agenda { agenda.old ≡ replicate agenda_bytes 0 }
     ensures { (D : Domain) → Held D head.now table.now
-        → (result ≡ ended_of (play_run D run.now))
+        → (end_in result ≡ ended_of (play_run D run.now))
         × (work.new ≡ over (held_bytes (play_run D run.now).facts) work.old)
         × (agenda_open result.opened agenda.new ≡ open_of (play_run D run.now).running) }
 {

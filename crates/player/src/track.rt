@@ -1,5 +1,5 @@
 // Playing with an instance: whether it stops the run, and its total at the end.
-ghost use Rattle.std.specs.Prelude.{◌≡◌, true, ◌≤◌, length, get_or};
+ghost use Rattle.std.specs.Prelude.{◌≡◌, true, ◌≤◌, length, get_or, unwrap_or, IfSome};
 ghost use Rattle.records.specs.Memory.{over};
 ghost use Rattle.literals.specs.Domain.{Domain};
 ghost use Rattle.literals.specs.Held.{HeadOf, Held, Read};
@@ -7,6 +7,7 @@ ghost use Rattle.verdict.specs.Claims.{well_formed};
 ghost use Rattle.run_semantics.specs.Play.{work_bytes, held_bytes, returned_bytes};
 ghost use Rattle.run_semantics.specs.Track.{count_of, objects_given, instance_stop, track_run, reported_total, tracked};
 ghost use Rattle.run_semantics.specs.Claims.{AsPlayed, TotalOfRun, NothingGained};
+ghost use Rattle.run_semantics.specs.Numbers.{stopped_by};
 ghost use Rattle.player.specs.Called.{file_of, offset_of};
 ghost use Rattle.player.specs.Held.{answer_by, tracked_of};
 
@@ -17,50 +18,49 @@ use journeys::total_of;
 use literals::head::{Head, keys_in};
 use records::bytes::{any_from, put_zeros};
 use records::{Record, record_at};
+use run_fields::kind::Kind;
 use run_fields::objects_stop;
+use run_semantics::Stop;
 
-// The object count of a record of this kind and payload, 0 where it is none of kind 16 or is stopped.
-fn count_of(kind: u16, p: &[u8]) -> u8
-    ensures { result ≡ count_of kind p.now }
+// The object count of a record of this kind and payload, if it is of kind 16 and nothing stops it.
+fn count_of(kind: u16, p: &[u8]) -> Option<u8>
+    ensures is { unwrap_or result 0 ≡ count_of kind p.now }
+    ensures some { IfSome result (λ objects. 1 ≤ objects) }
 {
-    if kind != 16 {
-        return 0;
+    if Kind::try_from(kind) != Ok(Kind::Objects) {
+        return None;
     }
-    if objects_stop(0, p) != 0 {
-        return 0;
+    match objects_stop(None, p) {
+        Ok(()) => Some(p[0]),
+        Err(_) => None,
     }
-    p[0]
 }
 
 // The object count of a run: that of its first record.
-fn objects_given(run: &[u8]) -> u8
-    ensures { result ≡ objects_given run.now }
+fn objects_given(run: &[u8]) -> Option<u8>
+    ensures is { unwrap_or result 0 ≡ objects_given run.now }
+    ensures some { IfSome result (λ objects. 1 ≤ objects) }
 {
-    match record_at(run, 0) {
-        Record::Whole { kind, start, len } => {
-            let end = start + len;
-            count_of(kind, &run[start..end])
-        }
-        Record::Cut => 0,
-        Record::End => 0,
-    }
+    let Record::Whole { kind, start, len } = record_at(run, 0) else {
+        return None;
+    };
+    let end = start + len;
+    count_of(kind, &run[start..end])
 }
 
-// 51 where the instance stops the run: it has another count than the keys, or an object that the run does not have. Else 0.
-fn instance_stop(head: &Head, run: &[u8], instance: &[u8]) -> u64
-    ensures { (D : Domain) → HeadOf D head.now → result ≡ instance_stop D instance.now run.now }
+// Whether the instance stops the run: it has another count than the keys, or an object that the run does not have.
+fn instance_stop(head: &Head, run: &[u8], instance: &[u8]) -> Result<(), Stop>
+    ensures { (D : Domain) → HeadOf D head.now → stopped_by result ≡ instance_stop D instance.now run.now }
 {
-    let objects = objects_given(run);
-    if objects == 0 {
-        return 0;
+    match objects_given(run) {
+        None => Ok(()),
+        Some(objects) => {
+            if instance.len() != keys_in(head) || any_from(instance, 0, objects) {
+                return Err(Stop::NamesNothing);
+            }
+            Ok(())
+        }
     }
-    if instance.len() != keys_in(head) {
-        return 51;
-    }
-    if any_from(instance, 0, objects) {
-        return 51;
-    }
-    0
 }
 
 // Plays a run file with an instance on a domain that was read.
@@ -74,12 +74,11 @@ pub fn track_run(head: &Head, table: &[u8], run: &[u8], instance: &[u8], work: &
         })
         × (work.new ≡ over (held_bytes (track_run D instance.now run.now).facts) work.old) }
 {
-    let stop = instance_stop(head, run, instance);
-    if stop != 0 {
+    if let Err(stop) = instance_stop(head, run, instance) {
         put_zeros(work, 0, WORK);
         return Tracked {
             played: PlayAnswer {
-                number: stop,
+                number: stop.number(),
                 place: 0,
                 steps: 0,
                 weight: 0,
@@ -124,7 +123,8 @@ pub fn track_files(domain: &[u8], run: &[u8], instance: &[u8], work: &mut [u8]) 
 // Plays a run file on a domain file with an instance: leaves seven numbers (the number, its place, the steps made, the highest weight,
 // the instance's total after the last step made, and of which file and from which offset the record at fault comes back) and the facts
 // in the work memory, and hands back that part. Where the instance stops nothing, all but the total is as `play` has it; and for a
-// template with verdict 1 the total is never above that of the start, where the instance weighs at most 1 there.
+// template with verdict 1 the total is never above that of the start, where the instance weighs at most 1 there. (No one function for this
+// and `play`: the total stands between their common numbers, so each place would depend on the length.)
 pub fn track<'a>(
     domain: &'a [u8],
     run: &'a [u8],

@@ -1,45 +1,35 @@
 // Prints the facts held in work memory: 8 bytes each, relation, arity, objects, FF to fill; zeros behind the last fact.
-ghost use Rattle.std.specs.Prelude.{◌+◌, ◌≤◌, length};
+ghost use Rattle.std.specs.Prelude.{◌≤◌, length};
 
-use literals::limits::MAX_ARGUMENTS;
-use print_verdict::put_byte;
+use print_verdict::put;
 use std::io;
 use std::io::Write;
 
-// Whether a row of this arity and this last byte holds no fact. A fact without objects ends in FF, and one whose last byte is an object
-// has an arity.
-fn is_unused(arity: u8, last: u8) -> bool {
-    if arity != 0 {
-        return false;
-    }
-    last == 0
+// Whether a row holds no fact. A fact without objects ends in FF, and one whose last byte is an object has an arity.
+fn is_unused(row: &[u8]) -> bool
+    requires { 8 ≤ length row.now }
+{
+    row[1] == 0 && row[7] == 0
 }
 
-// The objects of the fact that starts at this byte.
-fn objects<W: Write>(out: &mut W, work: &[u8], at: usize) -> io::Result<()>
-    requires { at + 8 ≤ length work.now }
+// The line of a fact: its relation, and its objects.
+fn put_fact<W: Write>(out: &mut W, row: &[u8]) -> io::Result<()>
+    requires { 8 ≤ length row.now }
 {
-    let arity = work[at + 1];
-    for i in 0..MAX_ARGUMENTS {
-        if i as u8 >= arity {
-            break;
-        }
-        put_byte(out, b" ", work[at + 2 + i])?;
+    put(out, b"fact ", row[0])?;
+    for object in row[2..8].iter().take(usize::from(row[1])) {
+        put(out, b" ", *object)?;
     }
-    Ok(())
+    out.write_all(b"\n")
 }
 
 // A line for each fact.
 pub fn print<W: Write>(out: &mut W, work: &[u8]) -> io::Result<()> {
-    let mut at = 0;
-    while at + 8 <= work.len() {
-        if is_unused(work[at + 1], work[at + 7]) {
-            return Ok(());
+    for row in work.chunks_exact(8) {
+        if is_unused(row) {
+            break;
         }
-        put_byte(out, b"fact ", work[at])?;
-        objects(out, work, at)?;
-        out.write_all(b"\n")?;
-        at += 8;
+        put_fact(out, row)?;
     }
     Ok(())
 }

@@ -8,24 +8,19 @@ ghost use Rattle.std.specs.Prelude.{◌≡◌, length};
 use player::play::{Fault, play_files};
 use player::run::WORK;
 use print_verdict::files::{DOMAIN_ROOM, print_error, read_named};
-use print_verdict::put;
 use std::io;
 use std::io::Write;
 use std::rt::Files;
 
 // Where the record at fault starts. With 2 and 58 no record is at fault.
 fn fault_line<W: Write>(out: &mut W, number: u64, fault: Fault) -> io::Result<()> {
-    if number == 2 {
-        return Ok(());
-    }
-    if number == 58 {
+    if matches!(number, 2 | 58) {
         return Ok(());
     }
     match fault {
-        Fault::Domain(at) => put(out, b"fault domain ", at as u64)?,
-        Fault::Run(at) => put(out, b"fault run ", at as u64)?,
+        Fault::Domain(at) => writeln!(out, "fault domain {at}"),
+        Fault::Run(at) => writeln!(out, "fault run {at}"),
     }
-    out.write_all(b"\n")
 }
 
 // Plays a run, and prints the answer, then each fact held, then the record at fault. (Work memory is lent as zeros: where nothing is
@@ -33,15 +28,13 @@ fn fault_line<W: Write>(out: &mut W, number: u64, fault: Fault) -> io::Result<()
 fn play_and_print<W: Write>(out: &mut W, domain: &[u8], run: &[u8]) -> io::Result<()> {
     let mut work = [0u8; WORK];
     let answer = play_files(domain, run, &mut work);
-    let number = answer.number;
-    let fault = answer.fault;
-    put(out, b"played ", number)?;
-    put(out, b" ", answer.place as u64)?;
-    put(out, b" ", answer.steps as u64)?;
-    put(out, b" ", answer.weight as u64)?;
-    out.write_all(b"\n")?;
+    writeln!(
+        out,
+        "played {} {} {} {}",
+        answer.number, answer.place, answer.steps, answer.weight
+    )?;
     facts::print(out, &work)?;
-    fault_line(out, number, fault)
+    fault_line(out, answer.number, answer.fault)
 }
 
 // Run files have no limit, but the program holds one whole: it plays up to so many bytes, and one byte more tells a longer file.
@@ -49,7 +42,7 @@ const MAX_RUN: usize = 1048576;
 
 const RUN_ROOM: usize = MAX_RUN + 1;
 
-// Room for a run file.
+// Room for a run file. (A function of its own, since its length is told by a law: so many zeros are not to be counted one by one.)
 fn run_buffer() -> [u8; RUN_ROOM]
     ensures { 1048577 ≡ length result }
 {
@@ -66,17 +59,13 @@ pub fn play_named<R: Files, W: Write, E: Write>(
     run_name: &[u8],
 ) -> io::Result<()> {
     let mut domain = [0u8; DOMAIN_ROOM];
-    let domain_read = read_named(rt, errors, b"play", domain_name, &mut domain)?;
-    if !domain_read.is_read {
+    let Some(n) = read_named(rt, errors, b"play", domain_name, &mut domain)? else {
         return Ok(());
-    }
+    };
     let mut run = run_buffer();
-    let run_read = read_named(rt, errors, b"play", run_name, &mut run)?;
-    if !run_read.is_read {
+    let Some(m) = read_named(rt, errors, b"play", run_name, &mut run)? else {
         return Ok(());
-    }
-    let n = domain_read.count;
-    let m = run_read.count;
+    };
     if m > MAX_RUN {
         return print_error(errors, b"play", b": over 1,048,576 bytes: ", run_name);
     }

@@ -1,7 +1,7 @@
 // Reads a file by name, or says on standard error why a program does nothing with it; and the names, which the program's arguments are.
 ghost use Rattle.std.specs.Counts.{IsPrefixLen};
 ghost use Rattle.std.specs.Io.KnownBytes.{Appends};
-ghost use Rattle.std.specs.Prelude.{[], ◌++◌, ◌≡◌, IfOk, OnOk, length, ◌∷◌};
+ghost use Rattle.std.specs.Prelude.{[], ◌++◌, ◌≡◌, IfOk, IfSome, OnOk, length, ◌∷◌};
 
 use literals::limits::MAX_FILE;
 use std::env::{Env, FillError};
@@ -16,32 +16,18 @@ pub const DOMAIN_ROOM: usize = MAX_FILE + 1;
 // Room for a file's name.
 pub const NAME_ROOM: usize = 4096;
 
-// Whether a file was read, and how many bytes of it: all, or as many as there was room for.
-#[derive(Clone, Copy)]
-pub struct FileRead {
-    pub is_read: bool,
-    pub count: usize,
-}
-
 // How many arguments the program was started with, its own name among them.
 pub fn argument_count(env: &impl Env) -> usize {
-    let mut start = [0u8; 1];
-    for i in 0..usize::MAX {
-        if let Err(FillError::NotPresent) = env.arg(i, &mut start) {
-            return i;
-        }
-    }
-    usize::MAX
+    (0..usize::MAX)
+        .find(|&i| matches!(env.arg(i, &mut [0u8; 1]), Err(FillError::NotPresent)))
+        .unwrap_or(usize::MAX)
 }
 
 // Puts an argument at the start of a memory, and returns its length: 0 where it is missing or longer than the memory.
 pub fn argument(env: &impl Env, i: usize, name: &mut [u8]) -> usize
     ensures { IsPrefixLen result name.new }
 {
-    match env.arg(i, name) {
-        Ok(length) => length,
-        Err(_) => 0,
-    }
+    env.arg(i, name).unwrap_or(0)
 }
 
 // One line: the program, why, and the file's name.
@@ -76,16 +62,16 @@ pub fn open_named<R: Files>(rt: &R, name: &[u8]) -> io::Result<R::File> {
     }
 }
 
-// Reads until the memory is full, the input ends or a read fails, and returns how many bytes it put at the start of the memory.
+// Reads until the memory is full, the input ends or a read fails, and returns how many bytes it put at the start of the memory. (By that
+// number, which is the answer: what is left of the memory, cut off read by read, would be no plainer.)
 pub fn read_full<R: Read>(input: &mut R, file: &mut [u8]) -> usize
     ensures { IsPrefixLen result file.new }
 {
     let mut done = 0;
     while done < file.len() {
         match input.read(&mut file[done..]) {
-            Ok(0) => break,
+            Ok(0) | Err(_) => break,
             Ok(n) => done += n,
-            Err(_) => break,
         }
     }
     done
@@ -94,33 +80,29 @@ pub fn read_full<R: Read>(input: &mut R, file: &mut [u8]) -> usize
 // Whether reading can go on, at the end of a file too. `read_full` stops at a read that fails (of a directory, say) as it does at the
 // end; one read more tells which.
 fn is_readable<R: Read>(input: &mut R) -> bool {
-    let mut next = [0u8; 1];
-    input.read(&mut next).is_ok()
+    input.read(&mut [0u8; 1]).is_ok()
 }
 
-// Reads a file from its start for the program of a name, or says that it cannot be opened or read. An error is one of writing that line;
-// the memory is then as long as before, and holds what was read.
+// Reads a file from its start for the program of a name, and tells how many bytes of it: all, or as many as there was room for. None where
+// it cannot be opened or read, which one line says; an error is one of writing that line.
 pub fn read_named<R: Files, W: Write>(
     rt: &R,
     errors: &mut W,
     program: &[u8],
     name: &[u8],
     file: &mut [u8],
-) -> io::Result<FileRead>
-    ensures counted { IfOk result (λ read. IsPrefixLen read.count file.new) }
+) -> io::Result<Option<usize>>
+    ensures counted { IfOk result (λ read. IfSome read (λ count. IsPrefixLen count file.new)) }
     ensures room { length file.new ≡ length file.old }
 {
     let Ok(mut input) = open_named(rt, name) else {
         print_open_error(errors, program, name)?;
-        return Ok(FileRead {
-            is_read: false,
-            count: 0,
-        });
+        return Ok(None);
     };
     let count = read_full(&mut input, file);
-    let is_read = is_readable(&mut input);
-    if !is_read {
+    if !is_readable(&mut input) {
         print_error(errors, program, b": cannot read ", name)?;
+        return Ok(None);
     }
-    Ok(FileRead { is_read, count })
+    Ok(Some(count))
 }

@@ -9,9 +9,13 @@ use lib.ListN.{length, drop, take-append-drop}
 use lib.Seq.{take_all}
 use borrow.Author.Tests.{le-leb, lt-leb, eq-eqb, ne_eqb, eqb-true, ltb-false}
 use Rattle.records.specs.Lists.{In, any, empty, same_list}
-use Rattle.records.proofs.Lists.{not_false, empty_no, empty_yes, get_d_in}
+use Rattle.std.specs.Prelude.{Result, Ok, Err, is_err, ⊤}
+use Rattle.literals.specs.declared.fault.RecordFault.{RecordFault}
+use Rattle.literals.specs.Faults.{record_stop}
+use Rattle.literals.proofs.Refusals.{fault_some}
+use Rattle.records.proofs.Lists.{clash, not_false, empty_no, empty_yes, get_d_in}
 use Rattle.records.proofs.Numbers.{number_of, none_passes, rows_split, cond_or}
-use Rattle.literals.specs.declared.RecordFault.{RecordFault}
+use Rattle.literals.specs.Decode.{RecordStop}
 use Rattle.literals.specs.declared.span.Span.{Span}
 use Rattle.literals.specs.Domain.{Literal, clears_once, Action, Component, keys_of, Domain, arity, no_action, action}
 use Rattle.literals.specs.Decode.{max_relations, max_arguments, max_actions, max_literals, max_components, RecordKind, relation_record}
@@ -61,6 +65,15 @@ held_over {old} K = record { says = K.filled.says; old = old; rows = K.rows }
 
 pub not_zero : (n : ℕ) → suc n ≡ 0 → ⊥
 not_zero n e = omega arith
+
+-- what a result says of the number
+pub stopped : (r : Result ⊤ RecordFault) → is_err r ≡ true → (record_stop r).number ≡ 0 → ⊥
+stopped (Ok u) e z = clash e refl
+stopped (Err f) e z = fault_some f.fault z
+
+pub passed : (r : Result ⊤ RecordFault) → is_err r ≡ false → (record_stop r).number ≡ 0
+passed (Ok u) e = refl
+passed (Err f) e = absurd (clash refl e)
 
 -- ---- the number that stops a relation, an action, the closing record
 
@@ -173,7 +186,7 @@ module _ {D : Domain} {head table : List ℕ} (K : Held D head table) (p : List 
     component_used t = sym (component_split D p ∙ rw (eq-eqb (component_fields_of D p) 0 (sym component_fields_are ∙ z), sym used_is ∙ t))
 
     -- the labels, then the keys where the rows have FF
-    module _ (t : u ≡ false) {k : ℕ} {m : RecordFault} (q : k ≡ keys_of (D.template ++ (component_of p ∷ [])))
+    module _ (t : u ≡ false) {k : ℕ} {m : RecordStop} (q : k ≡ keys_of (D.template ++ (component_of p ∷ [])))
         (r : m ≡ label_fault k (component_of p).labels) where
       by_labels : component_fault D p ≡ cleared_fault D.actions (component_of p) m
       by_labels =
@@ -218,14 +231,14 @@ module _ {D : Domain} {head : List ℕ} (H : HeadOf D head) (p : List ℕ) where
   pub component_full_place : max_components ≤ components_in head → 0 ≡ stop_place D component_record p
   component_full_place g = sym (place_limit D component_record p refl refl (components_full g))
 
-  module _ (f : components_in head < max_components) {r : RecordFault} (e : r ≡ component_fault D p) where
+  module _ (f : components_in head < max_components) {r : RecordStop} (e : r ≡ component_fault D p) where
     pub component_number : stop_of D component_record p ≡ r.number
     unfolding field_stop component_stop
-    component_number = stop_field D component_record p refl refl (components_room f) ∙ sym (ap (λ (x : RecordFault). x.number) e)
+    component_number = stop_field D component_record p refl refl (components_room f) ∙ sym (ap (λ (x : RecordStop). x.number) e)
 
     pub component_place : r.within ≡ stop_place D component_record p
     unfolding field_place
-    component_place = ap (λ (x : RecordFault). x.within) e ∙ sym (place_field D component_record p refl refl (components_room f))
+    component_place = ap (λ (x : RecordStop). x.within) e ∙ sym (place_field D component_record p refl refl (components_room f))
 
 -- ---- a literal
 

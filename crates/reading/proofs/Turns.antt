@@ -12,9 +12,10 @@ use Rattle.records.specs.declared.Record.{Record}
 use Rattle.records.specs.declared.Record.TheVariants.{Whole, Cut, End}
 use Rattle.records.specs.Record.{record_at, payload}
 use Rattle.records.specs.Memory.{over}
+use Rattle.records.proofs.Lists.{clash}
 use Rattle.records.proofs.Laws.{whole_within}
 use Rattle.records.proofs.Memory.{length_over}
-use Rattle.literals.specs.declared.RecordFault.{RecordFault}
+use Rattle.literals.specs.Decode.{RecordStop}
 use Rattle.literals.specs.Domain.{Action, Domain}
 use Rattle.literals.specs.Decode.{max_file, max_literals, latest, RecordKind, relation_record, action_record, literal_record, component_record}
 use Rattle.literals.specs.Decode.{closing_record, unknown_record, kind_of, literal_of, with_literal, action_of, field_stop, stop_of, stop_place}
@@ -25,11 +26,13 @@ use Rattle.literals.proofs.Stops.{passes, literal_passes}
 use Rattle.literals.proofs.Held.{literals_snoc, literals_more, rows_few, rows_fewer}
 use Rattle.literals.proofs.Heads.{length_table}
 use Rattle.literals.proofs.Fills.{filled_none}
-use Rattle.literals.proofs.Refusals.{refusal_number}
 use Rattle.literals.proofs.Loop.{read_more, read_done, payload_length, go_on_at}
 use Rattle.reading.specs.declared.Progress.{Progress}
 use Rattle.reading.specs.declared.Refusal.{Refusal as FileRefusal}
-use Rattle.reading.specs.declared.read.Stepped.{Stepped}
+use Rattle.std.specs.Prelude.{Some, None, Ok, Err, ⊤}
+use Rattle.literals.specs.Faults.{fault_number, at_start_of, told_stop}
+use Rattle.literals.specs.declared.fault.Fault.{Fault}
+use Rattle.literals.specs.declared.fault.RecordFault.{RecordFault}
 use Rattle.reading.specs.Held.{domain_after, HeldOver, RecordReady, Standing, at_start, ReadLeadsTo, EnoughTable, StepReady, refusal_of}
 use Rattle.reading.specs.Held.{read_until, read_of, table_after, ReadAs}
 use Rattle.reading.proofs.Takes.{behind_stop, behind_done, held_over}
@@ -83,6 +86,14 @@ record_ready {p} {s} {head} {t} r {k} {start} {len} e =
       room = λ l f. row_fits s t r.stands.holds.filled.says.bounded r.reading.at r.read (omega (arith, w.fits, w.start)) r.enough f;
     }
 
+-- a record that is at fault itself
+pub told_whole : (r : FileRefusal) (f : RecordFault) (at : ℕ) → refusal_of r ≡ refuse_at (told_stop f) at → (g : Fault) → f ≡ at_start_of g
+    → refusal_of r ≡ refuse (fault_number g) at
+told_whole r f at e g same =
+    let z : at + 0 ≡ at = omega arith in
+    e ∙ ap (λ (h : RecordFault). refuse_at (told_stop h) at) same
+    ∙ (λ i. record { number = fault_number g; place = z i; start = at })
+
 module _ (s : List ℕ) (p : Progress) {old : List ℕ} {q : Reading} {head t : List ℕ} (S : Standing old q p head t) where
   closed_is : {b : Bool} → p.closed ≡ b → q.closed ≡ b
   closed_is e = sym S.closed ∙ e
@@ -92,16 +103,15 @@ module _ (s : List ℕ) (p : Progress) {old : List ℕ} {q : Reading} {head t : 
   unfolding read_step
   found r c e = let f : record_at s q.at ≡ r = ap (record_at s) (sym S.at) ∙ e in simp (closed_is c, f)
 
-  -- what is at fault is the record itself
-  here : (n : ℕ) → read_step s q ≡ finish (refused (refuse n q.at)) → ReadLeadsTo old q (read_step s q) (record { number = n; place = p.at; progress = p }) head t
-  here n e = rw e (refl, S.at, S.at, S.holds.rows)
+  -- what ends reading with a refusal
+  here : (x : Refusal) (r : FileRefusal) → read_step s q ≡ finish (refused x) → refusal_of r ≡ x → ReadLeadsTo old q (read_step s q) (Err r) head t
+  here x r e f = rw e (f, S.holds.rows)
 
-  pub step_behind : p.closed ≡ true → p.at < length s → ReadLeadsTo old q (read_step s q) (record { number = 13; place = p.at; progress = p }) head t
+  pub step_behind : p.closed ≡ true → p.at < length s → (r : FileRefusal) → refusal_of r ≡ refuse 13 p.at → ReadLeadsTo old q (read_step s q) (Err r) head t
   unfolding read_step
-  step_behind c h = let a = S.at in let l : q.at < length s = omega arith in here 13 (simp (closed_is c, lt-ltb q.at (length s) l))
+  step_behind c h r e = let a = S.at in let l : q.at < length s = omega arith in here (refuse 13 q.at) r (simp (closed_is c, lt-ltb q.at (length s) l)) (e ∙ ap (refuse 13) S.at)
 
-  pub step_end : p.closed ≡ true → length s ≤ p.at
-      → ReadLeadsTo old q (read_step s q) (record { number = 1; place = 0; progress = p }) head t
+  pub step_end : p.closed ≡ true → length s ≤ p.at → ReadLeadsTo old q (read_step s q) (Ok None) head t
   unfolding read_step
   step_end c h =
       let a = S.at in
@@ -109,16 +119,16 @@ module _ (s : List ℕ) (p : Progress) {old : List ℕ} {q : Reading} {head t : 
       let e : read_step s q ≡ finish (domain q.sofar) = simp (closed_is c, le-ltb q.at (length s) l) in
       rw e (refl, held_over S.holds, S.holds.rows, S.holds.filled.room)
 
-  pub step_cut : p.closed ≡ false → record_at s p.at ≡ Cut → ReadLeadsTo old q (read_step s q) (record { number = 10; place = p.at; progress = p }) head t
+  -- no whole record stands there
+  pub step_short : p.closed ≡ false → (x : Record) → record_at s p.at ≡ x → ((k start len : ℕ) → x ≡ Whole k start len → ⊥)
+      → (r : FileRefusal) → refusal_of r ≡ refuse 10 p.at → ReadLeadsTo old q (read_step s q) (Err r) head t
   unfolding read_found
-  step_cut c e = here 10 (found Cut c e)
-
-  pub step_none : p.closed ≡ false → record_at s p.at ≡ End → ReadLeadsTo old q (read_step s q) (record { number = 10; place = p.at; progress = p }) head t
-  unfolding read_found
-  step_none c e = here 10 (found End c e)
+  step_short c (Whole k start len) e other r f = absurd (other k start len refl)
+  step_short c Cut e other r f = here (refuse 10 q.at) r (found Cut c e) (f ∙ ap (refuse 10) S.at)
+  step_short c End e other r f = here (refuse 10 q.at) r (found End c e) (f ∙ ap (refuse 10) S.at)
 
   -- of a whole record, what taking it leads to: the part of the file from `start` to its end is its payload
-  module _ {k start len : ℕ} (c : p.closed ≡ false) (e : record_at s p.at ≡ Whole k start len) (o : RecordFault) {after rows : List ℕ}
+  module _ {k start len : ℕ} (c : p.closed ≡ false) (e : record_at s p.at ≡ Whole k start len) (o : RecordStop) {after rows : List ℕ}
       (taken : (o.number ≡ stop_of q.sofar (kind_of k) (take (start + len - start) (drop start s))) × HeldOver old (domain_after q.sofar (kind_of k) (take (start + len - start) (drop start s))) after rows)
       (placed : o.within ≡ stop_place q.sofar (kind_of k) (take (start + len - start) (drop start s))) where
     part_is : take (start + len - start) (drop start s) ≡ payload s start len
@@ -135,9 +145,9 @@ module _ (s : List ℕ) (p : Progress) {old : List ℕ} {q : Reading} {head t : 
     within_is : stop_place q.sofar (kind_of k) (payload s start len) ≡ o.within
     within_is = sym (placed ∙ ap (stop_place q.sofar (kind_of k)) part_is)
 
-    pub step_on : o.number ≡ 0 → ReadLeadsTo old q (read_step s q) (record { number = 0; place = 0; progress = record { at = start + len; closed = eqb k 5 } }) after rows
+    pub step_on : o.number ≡ 0 → (b : Bool) → b ≡ eqb k 5 → ReadLeadsTo old q (read_step s q) (Ok (Some (record { at = start + len; closed = b }))) after rows
     unfolding read_record stop_of
-    step_on z = rw turn (refl, stands)
+    step_on z b is = rw turn stands
       where
         ok : stop_of q.sofar (kind_of k) (payload s start len) ≡ 0
         ok = number_is ∙ z
@@ -150,15 +160,15 @@ module _ (s : List ℕ) (p : Progress) {old : List ℕ} {q : Reading} {head t : 
             subst (λ (D : Domain). HeldOver old D after rows)
             (ap (domain_after q.sofar (kind_of k)) part_is ∙ behind_done q.sofar (kind_of k) (payload s start len) ok) taken.1
 
-        stands : Standing old next (record { at = start + len; closed = eqb k 5 }) after rows
-        stands = record { at = refl; closed = refl; holds = holds }
+        stands : Standing old next (record { at = start + len; closed = b }) after rows
+        stands = record { at = refl; closed = is; holds = holds }
 
         turn : read_step s q ≡ go_on next
         turn = record_is ∙ simp (eq-eqb (stop_of q.sofar (kind_of k) (payload s start len)) 0 ok)
 
-    pub step_stop_lem : (o.number ≡ 0 → ⊥) → {w : ℕ} → w ≡ o.within → ReadLeadsTo old q (read_step s q) (record { number = o.number; place = p.at + w; progress = p }) after rows
+    pub step_stop_lem : (o.number ≡ 0 → ⊥) → (r : FileRefusal) → refusal_of r ≡ refuse_at o p.at → ReadLeadsTo old q (read_step s q) (Err r) after rows
     unfolding read_record stop_of stop_place
-    step_stop_lem z d = rw turn (refl, ap₂ ◌+◌ S.at d, S.at, rows_are)
+    step_stop_lem z r d = rw turn (d ∙ ap (refuse_at o) S.at, rows_are)
       where
         rows_are : rows ≡ over (table_bytes q.sofar) old
         rows_are =
@@ -199,11 +209,11 @@ unfolding over table_bytes all_literals flat_map
 table_none t = refl
 
 -- a file that is too long: nothing is read
-pub too_long : (s head t : List ℕ) → max_file < length s → ReadAs (decode s) (record { number = 9; place = 0; start = 0 }) head t × (t ≡ table_after s t)
+pub too_long : (s head t : List ℕ) → max_file < length s → (r : FileRefusal) → refusal_of r ≡ refuse 9 0 → ReadAs (decode s) (Err r) head t × (t ≡ table_after s t)
 unfolding table_after
-too_long s head t h =
+too_long s head t h r f =
     let e = read_long s h in
-    let a : ReadAs (decode s) (record { number = 9; place = 0; start = 0 }) head t = rw e.0 (refl, refl, refl, λ z. omega arith) in
+    let a : ReadAs (decode s) (Err r) head t = rw e.0 f in
     (a, table_none t ∙ ap (λ (D : Domain). over (table_bytes D) t) (sym e.1))
 
 -- where the loop stands: it has read a part of the file as `decode` does, and the fuel that is left suffices
@@ -250,11 +260,10 @@ module _ {s old : List ℕ} {p : Progress} {head t : List ℕ} (i : Loop s old p
       go (inr l) = let n = loop_table in inr (omega arith)
 
 -- one turn, from what `step` ensures
-module _ (s old : List ℕ) (p : Progress) (head t : List ℕ) (i : Loop s old p head t) (o : Stepped) (head' t' : List ℕ)
-    (step : (q : Reading) (old : List ℕ) → Standing old q p head t → ReadLeadsTo old q (read_step s q) o head' t') where
-  record Turned : Type 0 where
-    next : Loop s old o.progress head' t'
-    further : p.at < o.progress.at
+module _ (s old : List ℕ) (p : Progress) (head t : List ℕ) (i : Loop s old p head t) (head' t' : List ℕ) where
+  record Turned (o : Progress) : Type 0 where
+    next : Loop s old o head' t'
+    further : p.at < o.at
 
   -- the fuel is not used up
   fuel_left : (f : ℕ) × (i.left ≡ suc f)
@@ -276,71 +285,81 @@ module _ (s old : List ℕ) (p : Progress) (head t : List ℕ) (i : Loop s old p
       let f = fuel_left in
       sym (until_done f.0 s i.reading d e) ∙ ap (λ (m : ℕ). read_until m s i.reading) (sym f.1) ∙ i.until
 
-  turned : o.number ≡ 0 → Turned
-  turned z = go (read_step s i.reading) refl (step i.reading old i.stands)
+  after : (x : Decoded) → read_step s i.reading ≡ finish x → t' ≡ over (table_bytes i.reading.sofar) old → t' ≡ table_after s old
+  unfolding table_after
+  after x e f = f ∙ ap (λ (D : Domain). over (table_bytes D) old) (ends x e)
+
+  -- it goes on
+  module _ (o : Progress) (step : (q : Reading) (old : List ℕ) → Standing old q p head t → ReadLeadsTo old q (read_step s q) (Ok (Some o)) head' t') where
+    turned : Turned o
+    turned = go (read_step s i.reading) refl (step i.reading old i.stands)
+      where
+        q : Reading
+        q = i.reading
+
+        go : (r : ReadTurn) → read_step s q ≡ r → ReadLeadsTo old q r (Ok (Some o)) head' t' → Turned o
+        go (go_on n) e h =
+            let g = go_on_at s q n e in
+            let f = fuel_left in
+            let a = i.stands.at in
+            let b = h.at in
+            let l = i.enough in
+            let k = f.1 in
+            let y = g.on in
+            let w = i.rows in
+            let m = rows_read q.sofar g.kind g.bytes g.passes in
+            let x = ap (λ (D : Domain). length (all_literals D.actions)) g.extends in
+            record {
+              next =
+                  record {
+                    short = i.short;
+                    reading = n;
+                    stands = h;
+                    rows = omega arith;
+                    within = g.within;
+                    left = f.0;
+                    enough = omega arith;
+                    same = sym (read_more f.0 s q n e) ∙ ap (λ (m : ℕ). read_from m s q) (sym f.1) ∙ i.same;
+                    until = sym (until_more f.0 s q n e) ∙ ap (λ (m : ℕ). read_until m s q) (sym f.1) ∙ i.until;
+                  };
+              further = omega arith;
+            }
+        go (finish (refused x)) e h = absurd h.0
+        go (finish (domain D)) e h = absurd (clash refl h.0)
+
+    pub loop_on : Loop s old o head' t'
+    loop_on = turned.next
+
+    pub loop_falls : length s - o.at < length s - p.at
+    loop_falls =
+        let f = turned.further in
+        let n = turned.next in
+        let a = n.stands.at in
+        let w = n.within in
+        omega arith
+
+  -- the file is read
+  pub loop_done : {u : ⊤} → ((q : Reading) (old : List ℕ) → Standing old q p head t → ReadLeadsTo old q (read_step s q) (Ok None) head' t')
+      → ReadAs (decode s) (Ok u) head' t' × (t' ≡ table_after s old)
+  loop_done {u} step = go (read_step s i.reading) refl (step i.reading old i.stands)
     where
-      q : Reading
-      q = i.reading
-
-      go : (r : ReadTurn) → read_step s q ≡ r → ReadLeadsTo old q r o head' t' → Turned
-      go (go_on n) e h =
-          let g = go_on_at s q n e in
-          let f = fuel_left in
-          let a = i.stands.at in
-          let b = h.1.at in
-          let l = i.enough in
-          let k = f.1 in
-          let y = g.on in
-          let w = i.rows in
-          let m = rows_read q.sofar g.kind g.bytes g.passes in
-          let x = ap (λ (D : Domain). length (all_literals D.actions)) g.extends in
-          record {
-            next =
-                record {
-                  short = i.short;
-                  reading = n;
-                  stands = h.1;
-                  rows = omega arith;
-                  within = g.within;
-                  left = f.0;
-                  enough = omega arith;
-                  same = sym (read_more f.0 s q n e) ∙ ap (λ (m : ℕ). read_from m s q) (sym f.1) ∙ i.same;
-                  until = sym (until_more f.0 s q n e) ∙ ap (λ (m : ℕ). read_until m s q) (sym f.1) ∙ i.until;
-                };
-            further = omega arith;
-          }
-      go (finish (refused x)) e h = let n = (refusal_number s x (finishes (refused x) e)).0 in let m = h.0 in absurd (omega arith)
-      go (finish (domain D)) e h = let m = h.0 in absurd (omega arith)
-
-  pub loop_on : o.number ≡ 0 → Loop s old o.progress head' t'
-  loop_on z = (turned z).next
-
-  pub loop_falls : o.number ≡ 0 → length s - o.progress.at < length s - p.at
-  loop_falls z =
-      let f = (turned z).further in
-      let n = (turned z).next in
-      let a = n.stands.at in
-      let w = n.within in
-      omega arith
-
-  pub loop_answer : (o.number ≡ 0 → ⊥) → (r : FileRefusal) → r ≡ refusal_of o → ReadAs (decode s) r head' t' × (t' ≡ table_after s old)
-  unfolding refusal_of table_after
-  loop_answer z r d = go (read_step s i.reading) refl (step i.reading old i.stands)
-    where
-      after : (x : Decoded) → read_step s i.reading ≡ finish x → t' ≡ over (table_bytes i.reading.sofar) old
-          → t' ≡ over (table_bytes (read_of s)) old
-      after x e f = f ∙ ap (λ (D : Domain). over (table_bytes D) old) (ends x e)
-
-      go : (n : ReadTurn) → read_step s i.reading ≡ n → ReadLeadsTo old i.reading n o head' t'
-          → ReadAs (decode s) r head' t' × (t' ≡ over (table_bytes (read_of s)) old)
-      go (go_on n) e h = absurd (z h.0)
-      go (finish (refused x)) e h =
-          let n = (refusal_number s x (finishes (refused x) e)).0 in
-          let m = h.0 in
-          let b : eqb o.number 1 ≡ false = ne_eqb o.number 1 (λ y. omega arith) in
-          let a : ReadAs (decode s) r head' t' = rw (finishes (refused x) e, d, b) (h.0, h.1, h.2, z) in
-          (a, after (refused x) e h.3)
+      go : (n : ReadTurn) → read_step s i.reading ≡ n → ReadLeadsTo old i.reading n (Ok None) head' t'
+          → ReadAs (decode s) (Ok u) head' t' × (t' ≡ table_after s old)
+      go (go_on n) e h = absurd h
+      go (finish (refused x)) e h = absurd h.0
       go (finish (domain D)) e h =
-          let b : eqb o.number 1 ≡ true = eq-eqb o.number 1 h.0 in
-          let a : ReadAs (decode s) r head' t' = rw (finishes (domain D) e, d, b) (refl, h.1, h.3) in
+          let a : ReadAs (decode s) (Ok u) head' t' = rw (finishes (domain D) e) (h.1, h.3) in
           (a, after (domain D) e h.2)
+
+  -- it is refused
+  pub loop_refused : (r : FileRefusal) → ((q : Reading) (old : List ℕ) → Standing old q p head t → ReadLeadsTo old q (read_step s q) (Err r) head' t')
+      → ReadAs (decode s) (Err r) head' t' × (t' ≡ table_after s old)
+  loop_refused r step = go (read_step s i.reading) refl (step i.reading old i.stands)
+    where
+      go : (n : ReadTurn) → read_step s i.reading ≡ n → ReadLeadsTo old i.reading n (Err r) head' t'
+          → ReadAs (decode s) (Err r) head' t' × (t' ≡ table_after s old)
+      go (go_on n) e h = absurd h
+      go (finish (refused x)) e h =
+          let a : ReadAs (decode s) (Err r) head' t' = rw (finishes (refused x) e) h.0 in
+          (a, after (refused x) e h.1)
+      go (finish (domain D)) e h = absurd h.0

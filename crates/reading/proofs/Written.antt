@@ -1,5 +1,5 @@
 -- The table with one record more. Assumes nothing.
-use mathlib.Core.Path.{◌≡◌, refl, sym, ap, subst, ◌∙◌}
+use mathlib.Core.Path.{◌≡◌, refl, sym, ap, ◌∙◌}
 use mathlib.Core.Bool.{Bool, true, false, cond}
 use mathlib.Core.Logic.{◌⊎◌, inl, inr}
 use mathlib.Core.List.{List, [], ◌∷◌, ◌++◌, flat_map, append-nil}
@@ -8,7 +8,7 @@ use native.Mathlib.Omega.{arith}
 use lib.Dec.{eqb}
 use lib.ListN.{length}
 use lib.Seq.{paste}
-use borrow.Author.Tests.{eqb-true, eqb-false}
+use borrow.Author.Tests.{eqb-true, eqb-false, ne_eqb}
 use Rattle.records.specs.Lists.{empty}
 use Rattle.records.specs.Memory.{over}
 use Rattle.records.proofs.Lists.{clash, bool_cases, or_out, flat_map_snoc}
@@ -18,12 +18,20 @@ use Rattle.literals.specs.Decode.{RecordKind, relation_record, action_record, li
 use Rattle.literals.specs.Decode.{max_literals, kind_of, latest, byte, literal_of, literal_stop, action_of, field_stop, stop_of, stop_place, extend}
 use Rattle.literals.specs.Held.{row_of, literal_row, all_literals, table_bytes, actions_in, components_in, variables_in, SpanOf, Filled}
 use Rattle.literals.specs.Held.{literal_shape, literal_arguments}
-use Rattle.literals.proofs.Stops.{passes, literal_passes, role_nine}
+use Rattle.literals.specs.Faults.{fault_number}
+use Rattle.literals.specs.declared.fault.Fault.{Fault}
+use Rattle.literals.specs.declared.fault.Fault.TheVariants.{UnknownKind}
+use Rattle.literals.proofs.Stops.{place_record, passes, literal_passes, role_nine}
 use Rattle.literals.proofs.Tables.{over_row, payload_row}
 use Rattle.literals.proofs.Held.{literals_snoc, literals_more}
 use Rattle.literals.proofs.Heads.{length_table}
 use Rattle.reading.specs.Held.{domain_after, HeldOver, Placed}
-use Rattle.reading.proofs.Takes.{row_stop, row_done, held_over, literal_short, literal_compared, span_size, span_all, literal_number}
+use Rattle.reading.specs.Kinds.{KindOf}
+use Rattle.std.specs.Prelude.{Result, Ok, Err}
+use Rattle.std.specs.Result.{result_eq}
+use Rattle.reading.specs.declared.kind.Kind.{Kind}
+use Rattle.reading.specs.declared.kind.Kind.TheVariants.{Relation, Action, Literal, Component, Closing}
+use Rattle.reading.proofs.Takes.{take_stop, not_zero, unknown_stop, row_stop, row_done, held_over, literal_short, literal_compared, span_size, span_all, literal_number}
 
 not_empty : {A : Type 0} (l : List A) → empty l ≡ false → 0 < length l
 not_empty [] e = absurd (clash refl e)
@@ -129,34 +137,41 @@ closing_kept {D} {head} F p = go (eqb (stop_of D closing_record p) 0)
 
 -- ---- a record by its kind's number
 
-module _ (D : Domain) (p : List ℕ) (k : ℕ) (j : RecordKind) (e : kind_of k ≡ j) where
-  pub by_kind : {n : ℕ} {old after rows : List ℕ} → (n ≡ stop_of D j p) × HeldOver old (domain_after D j p) after rows → (n ≡ stop_of D (kind_of k) p) × HeldOver old (domain_after D (kind_of k) p) after rows
-  by_kind {n} {old} {after} {rows} x = subst (λ (i : RecordKind). (n ≡ stop_of D i p)
-      × HeldOver old (domain_after D i p) after rows) (sym e) x
+-- an unknown one adds nothing
+module _ (D : Domain) (p : List ℕ) (k : ℕ) (e : kind_of k ≡ unknown_record) where
+  pub unknown_taken : {old head table : List ℕ} → HeldOver old D head table → (f : Fault) → f ≡ UnknownKind
+      → (fault_number f ≡ stop_of D (kind_of k) p) × HeldOver old (domain_after D (kind_of k) p) head table
+  unknown_taken K f is = rw (is, e) (unwritten K unknown_record p (same_unknown D p) (take_stop K.filled unknown_record p (unknown_stop D p) (not_zero 10)))
 
-  pub place_by : {w : ℕ} → w ≡ stop_place D j p → w ≡ stop_place D (kind_of k) p
-  place_by x = x ∙ ap (λ (i : RecordKind). stop_place D i p) (sym e)
+  pub unknown_place : 0 ≡ stop_place D (kind_of k) p
+  unknown_place = rw e (sym (place_record D unknown_record p refl))
 
-pub kind_1 : (k : ℕ) → k ≡ 1 → kind_of k ≡ relation_record
-kind_1 k e = ap kind_of e
+-- ---- the closing record is that of number 5
 
-pub kind_2 : (k : ℕ) → k ≡ 2 → kind_of k ≡ action_record
-kind_2 k e = ap kind_of e
+abbrev closes : RecordKind → Bool
+closes relation_record = false
+closes action_record = false
+closes literal_record = false
+closes component_record = false
+closes closing_record = true
+closes unknown_record = false
 
-pub kind_3 : (k : ℕ) → k ≡ 3 → kind_of k ≡ literal_record
-kind_3 k e = ap kind_of e
+closes_five : (n : ℕ) → closes (kind_of n) ≡ eqb n 5
+closes_five zero = refl
+closes_five (suc zero) = refl
+closes_five (suc (suc zero)) = refl
+closes_five (suc (suc (suc zero))) = refl
+closes_five (suc (suc (suc (suc zero)))) = refl
+closes_five (suc (suc (suc (suc (suc zero))))) = refl
+closes_five (suc (suc (suc (suc (suc (suc k)))))) = sym (ne_eqb (suc (suc (suc (suc (suc (suc k)))))) 5 (λ z. omega arith))
 
-pub kind_4 : (k : ℕ) → k ≡ 4 → kind_of k ≡ component_record
-kind_4 k e = ap kind_of e
-
-pub kind_5 : (k : ℕ) → k ≡ 5 → kind_of k ≡ closing_record
-kind_5 k e = ap kind_of e
-
-pub kind_other : (k : ℕ) → (k ≡ 1 → ⊥) → (k ≡ 2 → ⊥) → (k ≡ 3 → ⊥) → (k ≡ 4 → ⊥) → (k ≡ 5 → ⊥) → kind_of k ≡ unknown_record
-kind_other zero a b c d e = refl
-kind_other (suc zero) a b c d e = absurd (a refl)
-kind_other (suc (suc zero)) a b c d e = absurd (b refl)
-kind_other (suc (suc (suc zero))) a b c d e = absurd (c refl)
-kind_other (suc (suc (suc (suc zero)))) a b c d e = absurd (d refl)
-kind_other (suc (suc (suc (suc (suc zero))))) a b c d e = absurd (e refl)
-kind_other (suc (suc (suc (suc (suc (suc k)))))) a b c d e = refl
+-- a record's kind is the closing one exactly where its number is 5, by any tests of equality that tell it from the others
+module _ (same : Kind → Kind → Bool) (alike : Fault → Fault → Bool) where
+  pub closing_told : (same Relation Closing ≡ false) → (same Action Closing ≡ false) → (same Literal Closing ≡ false) → (same Component Closing ≡ false)
+      → (same Closing Closing ≡ true) → (n : ℕ) (r : Result Kind Fault) → KindOf n r → result_eq same alike r (Ok Closing) ≡ eqb n 5
+  closing_told a b c d e n (Ok Relation) k = a ∙ ap closes k ∙ closes_five n
+  closing_told a b c d e n (Ok Action) k = b ∙ ap closes k ∙ closes_five n
+  closing_told a b c d e n (Ok Literal) k = c ∙ ap closes k ∙ closes_five n
+  closing_told a b c d e n (Ok Component) k = d ∙ ap closes k ∙ closes_five n
+  closing_told a b c d e n (Ok Closing) k = e ∙ ap closes k ∙ closes_five n
+  closing_told a b c d e n (Err f) (u, k) = sym (ap closes k) ∙ closes_five n

@@ -1,14 +1,14 @@
 -- How the code reads a domain file: what one record leads to, where reading stands, the answer. Assumes nothing.
-use Rattle.std.specs.Prelude.{◌≡◌, true, false, cond, ◌⊎◌, List, ℕ, zero, suc, ◌+◌, ◌-◌, ◌*◌, ◌≤◌, ◌<◌, eqb, ltb, length, drop}
+use Rattle.std.specs.Prelude.{◌≡◌, true, false, cond, ◌⊎◌, Option, IsSomeAnd, IsNone, Result, IsOkAnd, IsErrAnd, ⊤, List, ℕ, zero, suc, ◌+◌, ◌-◌, ◌*◌, ◌≤◌, ◌<◌, eqb, ltb, length, drop}
 use Rattle.std.proofs.Math.Seq.{paste}
 use Rattle.records.specs.Memory.{over}
 use Rattle.reading.specs.declared.Progress.{Progress}
 use Rattle.reading.specs.declared.Refusal.{Refusal as FileRefusal}
-use Rattle.reading.specs.declared.read.Stepped.{Stepped}
 use Rattle.literals.specs.declared.span.Span.{Span}
 use Rattle.literals.specs.Domain.{Domain}
 use Rattle.literals.specs.Decode.{max_file, max_actions, max_literals, latest, RecordKind, literal_record, stop_of, extend, Decoded, refused}
-use Rattle.literals.specs.Decode.{domain, Reading, ReadTurn, go_on, finish, read_step, no_domain, from_start}
+use Rattle.literals.specs.Decode.{domain, Refusal, Reading, ReadTurn, go_on, finish, read_step, no_domain, from_start}
+use Rattle.literals.specs.Faults.{fault_number}
 use Rattle.literals.specs.Held.{row_of, rows_in, rows_stop, all_literals, table_bytes, Filled, Held, Adds, head_bytes}
 
 -- ---- what one record leads to
@@ -63,13 +63,16 @@ pub record Standing (old : List ℕ) (q : Reading) (p : Progress) (head table : 
   pub closed : p.closed ≡ q.closed
   pub holds : HeldOver old q.sofar head table
 
--- what a turn of reading leads to: 0 where it goes on, 1 where the file is read, else the number that refuses it, with its place; where
--- it ends, the table has the literals so far
-abbrev pub ReadLeadsTo : List ℕ → Reading → ReadTurn → Stepped → List ℕ → List ℕ → Type 0
-ReadLeadsTo old p (go_on q) r head table = (r.number ≡ 0) × Standing old q r.progress head table
-ReadLeadsTo old p (finish (refused x)) r head table = (r.number ≡ x.number) × (r.place ≡ x.place) × (r.progress.at ≡ x.start)
-    × (table ≡ over (table_bytes p.sofar) old)
-ReadLeadsTo old p (finish (domain D)) r head table = (r.number ≡ 1) × Held D head table × (table ≡ over (table_bytes p.sofar) old)
+-- what the code's refusal tells: the number with its place, and the offset of the record
+abbrev pub refusal_of : FileRefusal → Refusal
+refusal_of r = record { number = fault_number r.fault; place = r.place; start = r.start }
+
+-- what a turn of reading leads to: where it stands then, or that the file is read, or its refusal; where it ends, the table has the
+-- literals so far
+abbrev pub ReadLeadsTo : List ℕ → Reading → ReadTurn → Result (Option Progress) FileRefusal → List ℕ → List ℕ → Type 0
+ReadLeadsTo old p (go_on q) r head table = IsOkAnd r (λ o. IsSomeAnd o (λ next. Standing old q next head table))
+ReadLeadsTo old p (finish (refused x)) r head table = IsErrAnd r (λ f. refusal_of f ≡ x) × (table ≡ over (table_bytes p.sofar) old)
+ReadLeadsTo old p (finish (domain D)) r head table = IsOkAnd r IsNone × Held D head table × (table ≡ over (table_bytes p.sofar) old)
     × (length head ≡ head_bytes)
 
 -- a table that is large enough for a file: for all literals that a domain can have, or for those of the file, in which a literal takes at
@@ -88,12 +91,6 @@ pub record StepReady (p : Progress) (file head table : List ℕ) : Type 0 where
 
 -- ---- the answer
 
--- where a record ends reading: its number with its place and the offset of the record, or 0 where the file is read
-unfoldable pub refusal_of : Stepped → FileRefusal
-refusal_of o =
-    cond (eqb o.number 1) (record { number = 0; place = 0; start = 0 })
-    (record { number = o.number; place = o.place; start = o.progress.at })
-
 -- the domain that is read before reading ends, and that of a file
 unfoldable pub read_until : ℕ → List ℕ → Reading → Domain
 unfolding read_step
@@ -110,6 +107,6 @@ unfolding read_of table_bytes over
 table_after f table = over (table_bytes (read_of f)) table
 
 -- 9 to 27 as the definition has it, or the domain
-abbrev pub ReadAs : Decoded → FileRefusal → List ℕ → List ℕ → Type 0
-ReadAs (refused x) r head table = (r.number ≡ x.number) × (r.place ≡ x.place) × (r.start ≡ x.start) × (r.number ≡ 0 → ⊥)
-ReadAs (domain D) r head table = (r.number ≡ 0) × Held D head table × (length head ≡ head_bytes)
+abbrev pub ReadAs : Decoded → Result ⊤ FileRefusal → List ℕ → List ℕ → Type 0
+ReadAs (refused x) r head table = IsErrAnd r (λ f. refusal_of f ≡ x)
+ReadAs (domain D) r head table = IsOkAnd r (λ u. Held D head table × (length head ≡ head_bytes))

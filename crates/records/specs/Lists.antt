@@ -2,6 +2,7 @@
 -- `filter_by` and `count_by` are defined here. Assumes nothing.
 use Rattle.std.specs.Prelude.{Bool, true, false, ◌&&◌, ◌||◌, not, cond, ℕ, zero, suc, ltb, length}
 use mathlib.Core.List.{List, [], ◌∷◌, ◌++◌, Memᴰ}
+pub use Rattle.std.specs.List.{list_any as any, list_all as all, range_with_len as numbers_from}
 
 -- one more where the test passes
 abbrev pub add_if : Bool → ℕ → ℕ
@@ -29,14 +30,6 @@ module _ {A : Type 0} where
   abbrev pub count_by : (A → Bool) → List A → ℕ
   count_by p [] = zero
   count_by p (x ∷ xs) = add_if (p x) (count_by p xs)
-
-  abbrev pub all : (A → Bool) → List A → Bool
-  all p [] = true
-  all p (x ∷ xs) = p x && all p xs
-
-  abbrev pub any : (A → Bool) → List A → Bool
-  any p [] = false
-  any p (x ∷ xs) = p x || any p xs
 
   -- every two elements, the earlier one first, pass
   abbrev pub pairwise : (A → A → Bool) → List A → Bool
@@ -87,11 +80,6 @@ module _ {A : Type 0} where
 abbrev pub position : {A : Type 0} → (A → Bool) → List A → ℕ
 position p [] = zero
 position p (x ∷ xs) = cond (p x) zero (suc (position p xs))
-
--- the n numbers from i on
-abbrev pub numbers_from : ℕ → ℕ → List ℕ
-numbers_from i zero = []
-numbers_from i (suc n) = i ∷ numbers_from (suc i) n
 
 -- those below n
 abbrev pub below : ℕ → List ℕ

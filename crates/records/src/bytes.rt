@@ -1,24 +1,14 @@
-// Bytes of a memory: written at an offset, looked through from an offset on, and one as a number of the machine's width.
-ghost use Rattle.std.specs.Prelude.{◌≡◌, ◌||◌, ◌+◌, ◌<◌, ◌≤◌, eqb, leb, length, drop, replicate};
+// Bytes of a memory: written at an offset, and looked through from an offset on.
+ghost use Rattle.std.specs.Prelude.{◌≡◌, ◌||◌, ◌+◌, ◌<◌, ◌≤◌, eqb, leb, length, drop, replicate, count_by};
 ghost use Rattle.std.proofs.Math.Seq.{paste};
-ghost use Rattle.records.specs.Lists.{any, count_by};
-
-// The number of a byte.
-pub fn wide(b: u8) -> usize
-    ensures number { result ≡ b }
-    ensures low { result < 256 }
-{
-    b as usize
-}
+ghost use Rattle.records.specs.Lists.{any};
 
 // The bytes of a slice, written at an offset.
 pub fn put_bytes(out: &mut [u8], at: usize, p: &[u8])
     requires { at + length p.now ≤ length out.old }
     ensures { out.new ≡ paste out.old at p.now (length p.now) }
 {
-    for i in 0..p.len() {
-        out[at + i] = p[i];
-    }
+    out[at..at + p.len()].copy_from_slice(p);
 }
 
 // So many zeros, written at an offset.
@@ -26,38 +16,21 @@ pub fn put_zeros(out: &mut [u8], at: usize, n: usize)
     requires { at + n ≤ length out.old }
     ensures { out.new ≡ paste out.old at (replicate n 0) n }
 {
-    for i in 0..n {
-        out[at + i] = 0;
-    }
+    out[at..at + n].fill(0);
 }
 
 // Whether a byte from `from` on is not below the limit.
 pub fn any_from(s: &[u8], from: usize, limit: u8) -> bool
     ensures { result ≡ any (leb limit) (drop from s.now) }
 {
-    let mut i = from;
-    while i < s.len() {
-        if limit <= s[i] {
-            return true;
-        }
-        i += 1;
-    }
-    false
+    s.iter().skip(from).any(|b| limit <= *b)
 }
 
 // How many bytes from `from` on equal b.
 pub fn count_from(s: &[u8], from: usize, b: u8) -> usize
     ensures { result ≡ count_by (eqb b) (drop from s.now) }
 {
-    let mut n: usize = 0;
-    let mut i = from;
-    while i < s.len() {
-        if s[i] == b {
-            n += 1;
-        }
-        i += 1;
-    }
-    n
+    s.iter().skip(from).filter(|x| b == **x).count()
 }
 
 // Whether something is found already, or two numbers are equal. A loop that asks this of each number, and goes on where it is found, is
@@ -65,8 +38,5 @@ pub fn count_from(s: &[u8], from: usize, b: u8) -> usize
 pub fn found_or_equal(found: bool, x: u64, y: u64) -> bool
     ensures { result ≡ (found || eqb x y) }
 {
-    if found {
-        return true;
-    }
-    x == y
+    found || x == y
 }

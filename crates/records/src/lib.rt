@@ -7,7 +7,7 @@ ghost use Rattle.std.specs.Prelude.{◌≡◌, ◌+◌, ◌<◌, length};
 ghost use Rattle.records.specs.Record.{record_at, word};
 
 // What stands at an offset of a file.
-#[derive(Clone, Copy)]
+#[derive(Clone, Copy, PartialEq, Eq, Debug)]
 pub enum Record {
     // A whole record of this kind: its payload starts at `start` and is `len` bytes long.
     Whole { kind: u16, start: usize, len: usize },
@@ -17,23 +17,18 @@ pub enum Record {
     End,
 }
 
-fn wide16(b: u8) -> u16
-    ensures number { result ≡ b }
-    ensures low { result < 256 }
-{
-    b as u16
-}
-
 // The number in two bytes, the lower first.
+#[tactic(auto, unfolding(crate::specs::Record::word))]
 fn word_at(s: &[u8], at: usize) -> u16
     requires { at + 1 < length s.now }
     ensures number { result ≡ word s.now at }
     ensures low { result < 65536 }
 {
-    wide16(s[at]) + wide16(s[at + 1]) * 256
+    u16::from_le_bytes([s[at], s[at + 1]])
 }
 
 // The record at an offset, which a reader answers.
+#[tactic(auto, unfolding(crate::specs::Record::record_at))]
 fn found_at(s: &[u8], at: usize) -> Record
     ensures { result ≡ record_at s.now at }
 {
@@ -43,7 +38,7 @@ fn found_at(s: &[u8], at: usize) -> Record
     if s.len() - at < 4 {
         return Record::Cut;
     }
-    let len = word_at(s, at) as usize;
+    let len = usize::from(word_at(s, at));
     let kind = word_at(s, at + 2);
     if len <= s.len() - at - 4 {
         Record::Whole {

@@ -1,18 +1,19 @@
--- Laws for the checks of a run record's fields: the close of a run, bytes that stand twice, the tests of a start fact and of an event by bytes and by the domain.
+-- Laws for the checks of a run record's fields: the close of a run, bytes that stand twice, and what stops a start fact and an event, by bytes and by the domain.
 -- Assumes nothing.
 use mathlib.Core.Path.{◌≡◌, refl, sym, ap, ap₂, ◌∙◌}
 use mathlib.Core.Bool.{Bool, true, false, ◌&&◌, ◌||◌, not, cond}
 use mathlib.Core.List.Memᴰ
 use mathlib.Core.List.{List, [], ◌∷◌, map}
-use Prim.Native.Nat.{ℕ, zero, suc, ◌+◌, ◌≤◌, ◌<◌}
+use mathlib.Core.Logic.{◌⊎◌, inl, inr}
+use Prim.Native.Nat.{ℕ, zero, suc, ◌+◌, ◌-◌, ◌≤◌, ◌<◌}
 use native.Mathlib.Numerals.{add-one}
 use native.Mathlib.Omega.{arith}
 use lib.Dec.{eqb, ltb, leb}
 use lib.ListN.{length, drop, get_or, length-map, length-drop, drop_of_length-le}
 use lib.Seq.{drop-cons}
-use borrow.Author.Tests.{lt-ltb, le-ltb, ltb-false, le-leb, lt-leb, leb-false, eq-eqb, ne_eqb, eqb-true}
-use Rattle.records.specs.Lists.{all, any, empty, count_by, add_if, distinct, elem, below}
-use Rattle.records.proofs.Lists.{not_false, any_out, all_map, empty_no, empty_yes}
+use borrow.Author.Tests.{ltb-true, ltb-false, le-leb, lt-leb, leb-false, eq-eqb, ne_eqb, eqb-true, eqb-false}
+use Rattle.records.specs.Lists.{all, any, empty, distinct, elem, below, numbers_from}
+use Rattle.records.proofs.Lists.{bool_cases, not_false, any_out, all_map, empty_no, empty_yes}
 use Rattle.records.proofs.Numbers.{number_of, test_of, none_passes, rows_split}
 use Rattle.literals.specs.declared.Object.{Object}
 use Rattle.literals.specs.Domain.{object, same_object, Fact, same_fact, Domain, arity, action}
@@ -25,7 +26,7 @@ use Rattle.verdict.specs.Held.{fact_row}
 use Rattle.events.specs.Held.{Waiting, ground_row, waiting_of, GroundFits, EventsFit}
 use Rattle.run_semantics.specs.RunFile.{fact_of, moment_of, event_of, max_facts, max_events, outside, fact_stop, event_stop, step_stop, end_stop}
 use Rattle.store.specs.Held.{has_row}
-use Rattle.run_fields.specs.Held.{fact_fields, event_fields, waits_at}
+use Rattle.run_fields.specs.Held.{fact_fields, event_fields, stands_again, waits_at}
 use Rattle.events.proofs.FactRows.{has_fact}
 use Rattle.run_fields.proofs.WaitingRows.{waiting_elem}
 
@@ -46,122 +47,44 @@ module _ (n : ℕ) (es : List Event) (b : List ℕ) (stop : ℕ) (s : stop ≡ s
     pub end_passed : length es ≤ 0 → 0 ≡ end_stop n es b
     end_passed l = sym (end_split n es b ∙ rw (← s, eq-eqb stop 0 z, empty_yes es l))
 
--- ---- a loop over bytes that looks for one that stands twice
+-- ---- whether a byte stands twice, as the code looks for one
 
-count_all : (b : ℕ) (l : List ℕ) → all (λ y. not (eqb b y)) l ≡ eqb (count_by (eqb b) l) 0
-count_all b [] = refl
-count_all b (y ∷ ys) = go (eqb b y) (count_all b ys)
+eqb_turned : (x y : ℕ) → eqb y x ≡ eqb x y
+eqb_turned x y = go (bool_cases (eqb x y))
   where
-    go : (t : Bool) → all (λ y. not (eqb b y)) ys ≡ eqb (count_by (eqb b) ys) 0 → not t && all (λ y. not (eqb b y)) ys ≡ eqb (add_if t (count_by (eqb b) ys)) 0
-    go true h = sym (ne_eqb (suc (count_by (eqb b) ys)) 0 (λ e. omega arith))
+    go : (eqb x y ≡ true) ⊎ (eqb x y ≡ false) → eqb y x ≡ eqb x y
+    go (inl t) = let e = eqb-true x y t in eq-eqb y x (sym e) ∙ sym t
+    go (inr f) = ne_eqb y x (λ e. eqb-false x y f (sym e)) ∙ sym f
+
+any_not_all : (x : ℕ) (l : List ℕ) → any (λ y. eqb y x) l ≡ not (all (λ y. not (eqb x y)) l)
+any_not_all x [] = refl
+any_not_all x (y ∷ ys) = ap (λ (t : Bool). t || any (λ z. eqb z x) ys) (eqb_turned x y) ∙ go (eqb x y) (any_not_all x ys)
+  where
+    go : (t : Bool) → any (λ z. eqb z x) ys ≡ not (all (λ z. not (eqb x z)) ys) → t || any (λ z. eqb z x) ys ≡ not (not t && all (λ z. not (eqb x z)) ys)
+    go true h = refl
     go false h = h
 
-module _ (s : List ℕ) (i : ℕ) where
-  -- past the end nothing is left
-  pub twice_end : length s ≤ i → not (distinct eqb (drop i s)) ≡ false
-  twice_end h = rw (drop_of_length-le s h)
+module _ (s : List ℕ) where
+  again_from : (i n : ℕ) → i + n ≡ length s → any (stands_again s) (numbers_from i n) ≡ not (distinct eqb (drop i s))
+  again_from i zero e = let l : length s ≤ i = omega arith in rw (drop_of_length-le s l)
+  again_from i (suc n) e =
+      ap₂ ◌||◌ (any_not_all (get_or s i 0) (drop (i + 1) s)) (again_from (i + 1) n (omega arith))
+      ∙ go (all (λ y. not (eqb (get_or s i 0) y)) (drop (i + 1) s)) (distinct eqb (drop (i + 1) s))
+      ∙ sym (ap (λ (l : List ℕ). not (distinct eqb l)) (drop-cons s i 0 (omega arith) ∙ ap (λ (k : ℕ). get_or s i 0 ∷ drop k s) (sym (add-one i))))
+    where
+      go : (a b : Bool) → not a || not b ≡ not (a && b)
+      go true b = refl
+      go false b = refl
 
-  -- the byte at i comes first; n bytes behind it equal it
-  module _ (n : ℕ) (h : i < length s) (e : n ≡ count_by (eqb (get_or s i 0)) (drop (i + 1) s)) where
-    first : all (λ y. not (eqb (get_or s i 0) y)) (drop (suc i) s) ≡ eqb n 0
-    first = count_all (get_or s i 0) (drop (suc i) s) ∙ ap (λ (k : ℕ). eqb k 0) (ap (λ (k : ℕ). count_by (eqb (get_or s i 0)) (drop k s)) (sym (add-one i)) ∙ sym e)
-
-    pub twice_hit : (n ≡ 0 → ⊥) → not (distinct eqb (drop i s)) ≡ true
-    twice_hit z = rw (drop-cons s i 0 h, first, ne_eqb n 0 z)
-
-    pub twice_miss : n ≡ 0 → not (distinct eqb (drop i s)) ≡ not (distinct eqb (drop (i + 1) s))
-    twice_miss z = rw (drop-cons s i 0 h, first, eq-eqb n 0 z, add-one)
-
--- ---- the tests of a start fact up to 51, in the order of the code
-
-module _ (head : List ℕ) (objects : ℕ) (begun : Bool) (b : List ℕ) where
-  pub fact_early : objects ≡ 0 → 50 ≡ fact_fields head objects begun b
-  unfolding fact_fields
-  fact_early e = rw (eq-eqb objects 0 e)
-
-  module _ (o : objects ≡ 0 → ⊥) where
-    pub fact_late : begun ≡ true → 50 ≡ fact_fields head objects begun b
-    unfolding fact_fields
-    fact_late e = rw (ne_eqb objects 0 o, e)
-
-    module _ (t : begun ≡ false) where
-      pub fact_short : length b < 1 → 50 ≡ fact_fields head objects begun b
-      unfolding fact_fields
-      fact_short l = rw (ne_eqb objects 0 o, t, lt-ltb (length b) 1 l)
-
-      module _ (l : 1 ≤ length b) (r : ℕ) (e : r ≡ byte b 0) where
-        pub fact_unknown : relations_in head ≤ r → 51 ≡ fact_fields head objects begun b
-        unfolding fact_fields
-        fact_unknown k = rw (ne_eqb objects 0 o, t, le-ltb (length b) 1 l, ← e, le-leb (relations_in head) r k)
-
-        module _ (k : r < relations_in head) (a : ℕ) (f : a ≡ arity_in head (byte b 0)) where
-          pub fact_length : (length b ≡ 1 + a → ⊥) → 50 ≡ fact_fields head objects begun b
-          unfolding fact_fields
-          fact_length g = rw (ne_eqb objects 0 o, t, le-ltb (length b) 1 l, ← f, ← e, lt-leb (relations_in head) r k, ne_eqb (length b) (1 + a) g)
-
-          module _ (g : length b ≡ 1 + a) where
-            pub fact_objects : (out : Bool) → out ≡ any (leb objects) (drop 1 b) → cond out 51 0 ≡ fact_fields head objects begun b
-            unfolding fact_fields
-            fact_objects out h = rw (ne_eqb objects 0 o, t, le-ltb (length b) 1 l, ← f, ← e, lt-leb (relations_in head) r k, eq-eqb (length b) (1 + a) g, ← h)
-
--- ---- the same of an event
-
-module _ (head : List ℕ) (objects : ℕ) (b : List ℕ) where
-  pub event_early : objects ≡ 0 → 50 ≡ event_fields head objects b
-  unfolding event_fields
-  event_early e = rw (eq-eqb objects 0 e)
-
-  module _ (o : objects ≡ 0 → ⊥) where
-    pub event_short : length b < 2 → 50 ≡ event_fields head objects b
-    unfolding event_fields
-    event_short l = rw (ne_eqb objects 0 o, lt-ltb (length b) 2 l)
-
-    module _ (l : 2 ≤ length b) where
-      pub event_moment : 1 < byte b 0 → 51 ≡ event_fields head objects b
-      unfolding event_fields
-      event_moment m = rw (ne_eqb objects 0 o, le-ltb (length b) 2 l, lt-ltb 1 (byte b 0) m)
-
-      module _ (m : byte b 0 ≤ 1) (a : ℕ) (e : a ≡ byte b 1) where
-        pub event_unknown : actions_in head ≤ a → 51 ≡ event_fields head objects b
-        unfolding event_fields
-        event_unknown k = rw (ne_eqb objects 0 o, le-ltb (length b) 2 l, le-ltb 1 (byte b 0) m, ← e, le-leb (actions_in head) a k)
-
-        module _ (k : a < actions_in head) (v : ℕ) (f : v ≡ variables_in head a) where
-          pub event_length : (length b ≡ 2 + v → ⊥) → 50 ≡ event_fields head objects b
-          unfolding event_fields
-          event_length g = rw (ne_eqb objects 0 o, le-ltb (length b) 2 l, le-ltb 1 (byte b 0) m, ← e, lt-leb (actions_in head) a k, ← f, ne_eqb (length b) (2 + v) g)
-
-          module _ (g : length b ≡ 2 + v) (late : Bool) (s : late ≡ eqb (byte b 0) 1 && not (lasting_in head a)) where
-            pub event_sort : late ≡ true → 51 ≡ event_fields head objects b
-            unfolding event_fields
-            event_sort t =
-                rw (
-                  ne_eqb objects 0 o,
-                  le-ltb (length b) 2 l,
-                  le-ltb 1 (byte b 0) m,
-                  ← e,
-                  lt-leb (actions_in head) a k,
-                  ← f,
-                  eq-eqb (length b) (2 + v) g,
-                  ← s,
-                  t,
-                )
-
-            pub event_objects : late ≡ false → (out : Bool) → out ≡ any (leb objects) (drop 2 b) → cond out 51 0 ≡ event_fields head objects b
-            unfolding event_fields
-            event_objects t out h =
-                rw (
-                  ne_eqb objects 0 o,
-                  le-ltb (length b) 2 l,
-                  le-ltb 1 (byte b 0) m,
-                  ← e,
-                  lt-leb (actions_in head) a k,
-                  ← f,
-                  eq-eqb (length b) (2 + v) g,
-                  ← s,
-                  t,
-                  ← h,
-                )
+  pub again_twice : (i : ℕ) → any (stands_again s) (numbers_from i (length s - i)) ≡ not (distinct eqb (drop i s))
+  again_twice i = go (bool_cases (ltb i (length s)))
+    where
+      go : (ltb i (length s) ≡ true) ⊎ (ltb i (length s) ≡ false) → any (stands_again s) (numbers_from i (length s - i)) ≡ not (distinct eqb (drop i s))
+      go (inl t) = let l = ltb-true i (length s) t in again_from i (length s - i) (omega arith)
+      go (inr f) =
+          let l = ltb-false i (length s) f in
+          let z : length s - i ≡ 0 = omega arith in
+          rw (z, drop_of_length-le s l)
 
 -- ---- what holds where no number up to 51 stops a start fact
 

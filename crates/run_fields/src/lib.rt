@@ -1,8 +1,10 @@
-// The fields of a run file's records: each check answers the number that stops its record, or 0. And what a record that passes
-// adds: a row of a fact, an event that waits.
+// The fields of a run file's records: each check answers what stops its record, if anything does. And what a record that
+// passes adds: a row of a fact, an event that waits. The kinds of the records stand in kind.
 #![tactic(auto)]
 
-ghost use Rattle.std.specs.Prelude.{◌≡◌, ◌&&◌, not, List, map, ◌+◌, ◌*◌, ◌<◌, ◌≤◌, eqb, length, get_or, drop};
+pub mod kind;
+
+ghost use Rattle.std.specs.Prelude.{◌≡◌, ◌&&◌, not, List, map, ◌+◌, ◌*◌, ◌<◌, ◌≤◌, eqb, length, get_or, drop, OnOk};
 ghost use Rattle.std.proofs.Math.Seq.{paste};
 ghost use Rattle.records.specs.Lists.{any, distinct, below};
 ghost use Rattle.literals.specs.Domain.{Fact, Domain};
@@ -10,66 +12,59 @@ ghost use Rattle.literals.specs.Held.{rows_in, lasting_in, HeadOf};
 ghost use Rattle.literals.specs.Decode.{max_actions, max_variables, max_arguments};
 ghost use Rattle.run_semantics.specs.RunFile.{max_objects, max_events, fact_of, event_of, objects_stop};
 ghost use Rattle.run_semantics.specs.RunFile.{fact_stop, event_stop, step_stop, end_stop};
+ghost use Rattle.run_semantics.specs.Numbers.{stopped_by};
 ghost use Rattle.verdict.specs.Machine.{Event};
 ghost use Rattle.verdict.specs.Held.{fact_row};
 ghost use Rattle.store.specs.Held.{Few};
 ghost use Rattle.events.specs.Held.{ground_bytes, waiting_bytes, ground_row, waiting_of, EventsFit};
-ghost use Rattle.run_fields.specs.Held.{fact_fields, event_fields, waits_at};
+ghost use Rattle.run_fields.specs.Held.{objects_or_0, fact_fields, event_fields, stands_again, waits_at};
 
 use events::GROUND;
 use events::openings::same_ground;
 use literals::head::{Head, actions_in, arity_of, is_lasting, relations_in, variables_of};
 use literals::limits::{MAX_EVENTS, MAX_FACTS, MAX_OBJECTS};
-use records::bytes::{any_from, count_from, put_bytes, wide};
+use records::bytes::{any_from, put_bytes};
+use run_semantics::Stop;
+use std::num::NonZeroU8;
 use store::rows::has_row;
 
 // ---- the object count, the close of a step and the close of the run
 
-// Kind 16: the object count. `objects` is the count so far, 0 before its record.
-pub fn objects_stop(objects: u8, p: &[u8]) -> u64
-    ensures is { result ≡ objects_stop objects p.now }
-    ensures fits { result ≡ 0 → (length p.now ≡ 1) × (get_or p.now 0 0 ≤ max_objects) }
+// Kind 16: the object count. `objects` is the count so far, none before its record.
+#[tactic(auto, unfolding(run_semantics::specs::RunFile::objects_stop))]
+pub fn objects_stop(objects: Option<NonZeroU8>, p: &[u8]) -> Result<(), Stop>
+    ensures is { stopped_by result ≡ objects_stop (objects_or_0 objects) p.now }
+    ensures fits { OnOk result ((length p.now ≡ 1) × (1 ≤ get_or p.now 0 0) × (get_or p.now 0 0 ≤ max_objects)) }
 {
-    if objects != 0 {
-        return 50;
+    if objects.is_some() || p.len() != 1 {
+        return Err(Stop::Malformed);
     }
-    if p.len() != 1 {
-        return 50;
+    if p[0] == 0 || MAX_OBJECTS < usize::from(p[0]) {
+        return Err(Stop::NamesNothing);
     }
-    if p[0] == 0 {
-        return 51;
-    }
-    if (MAX_OBJECTS as u8) < p[0] {
-        return 51;
-    }
-    0
+    Ok(())
 }
 
 // Kind 19: the close of a step has no fields.
-pub fn step_stop(objects: u8, p: &[u8]) -> u64
-    ensures { result ≡ step_stop objects p.now }
+#[tactic(auto, unfolding(run_semantics::specs::RunFile::step_stop))]
+pub fn step_stop(objects: Option<NonZeroU8>, p: &[u8]) -> Result<(), Stop>
+    ensures { stopped_by result ≡ step_stop (objects_or_0 objects) p.now }
 {
-    if objects == 0 {
-        return 50;
+    if objects.is_none() || p.len() != 0 {
+        return Err(Stop::Malformed);
     }
-    if p.len() != 0 {
-        return 50;
-    }
-    0
+    Ok(())
 }
 
 // Kind 20: the close of the run has no fields either, and no event waits.
-pub fn end_stop(objects: u8, waiting: usize, p: &[u8]) -> u64
-    ensures { (es : List Event) → length es ≡ waiting → result ≡ end_stop objects es p.now }
+pub fn end_stop(objects: Option<NonZeroU8>, waiting: usize, p: &[u8]) -> Result<(), Stop>
+    ensures { (es : List Event) → length es ≡ waiting → stopped_by result ≡ end_stop (objects_or_0 objects) es p.now }
 {
-    let stop = step_stop(objects, p);
-    if stop != 0 {
-        return stop;
-    }
+    step_stop(objects, p)?;
     if waiting != 0 {
-        return 50;
+        return Err(Stop::Malformed);
     }
-    0
+    Ok(())
 }
 
 // ---- rows
@@ -108,51 +103,49 @@ pub fn put_fact(work: &mut [u8], n: usize, row: [u8; 8])
 
 // ---- a start fact
 
-// Kind 17, up to 51: relation, objects. `begun` where a record of kind 18 to 20 came before.
-fn fact_fields(head: &Head, objects: u8, begun: bool, p: &[u8]) -> u64
-    ensures { result ≡ fact_fields head.now objects begun p.now }
+// Kind 17, up to its objects: relation, objects. `begun` where a record of kind 18 to 20 came before.
+#[tactic(auto, unfolding(crate::specs::Held::fact_fields))]
+fn fact_fields(head: &Head, objects: Option<NonZeroU8>, begun: bool, p: &[u8]) -> Result<(), Stop>
+    ensures { stopped_by result ≡ fact_fields head.now (objects_or_0 objects) begun p.now }
 {
-    if objects == 0 {
-        return 50;
+    let Some(objects) = objects else {
+        return Err(Stop::Malformed);
+    };
+    if begun || p.len() < 1 {
+        return Err(Stop::Malformed);
     }
-    if begun {
-        return 50;
+    if relations_in(head) <= usize::from(p[0]) {
+        return Err(Stop::NamesNothing);
     }
-    if p.len() < 1 {
-        return 50;
+    if p.len() != 1 + usize::from(arity_of(head, p[0])) {
+        return Err(Stop::Malformed);
     }
-    let relation = wide(p[0]);
-    if relations_in(head) <= relation {
-        return 51;
+    if any_from(p, 1, objects.get()) {
+        return Err(Stop::NamesNothing);
     }
-    if p.len() != 1 + wide(arity_of(head, p[0])) {
-        return 50;
-    }
-    if any_from(p, 1, objects) {
-        return 51;
-    }
-    0
+    Ok(())
 }
 
-// Kind 17: a start fact, where the first n rows of the work memory are the facts so far; 52 is the 1,025th different one.
-pub fn fact_stop(head: &Head, objects: u8, begun: bool, work: &[u8], n: usize, p: &[u8]) -> u64
+// Kind 17: a start fact, where the first n rows of the work memory are the facts so far; the 1,025th different one is too many.
+pub fn fact_stop(
+    head: &Head,
+    objects: Option<NonZeroU8>,
+    begun: bool,
+    work: &[u8],
+    n: usize,
+    p: &[u8],
+) -> Result<(), Stop>
     requires { 8 * n ≤ length work.now }
     ensures is { (D : Domain) (fs : List Fact) → HeadOf D head.now
         → rows_in n work.now ≡ map fact_row fs → n ≡ length fs → Few fs
-        → result ≡ fact_stop D objects begun fs p.now }
-    ensures fits { result ≡ 0 → (1 ≤ length p.now) × (length p.now ≤ 1 + max_arguments) }
+        → stopped_by result ≡ fact_stop D (objects_or_0 objects) begun fs p.now }
+    ensures fits { OnOk result ((1 ≤ length p.now) × (length p.now ≤ 1 + max_arguments)) }
 {
-    let stop = fact_fields(head, objects, begun, p);
-    if stop != 0 {
-        return stop;
+    fact_fields(head, objects, begun, p)?;
+    if n < MAX_FACTS || has_row(work, n, fact_row(p)) {
+        return Ok(());
     }
-    if n < MAX_FACTS {
-        return 0;
-    }
-    if has_row(work, n, fact_row(p)) {
-        return 0;
-    }
-    52
+    Err(Stop::TooMany)
 }
 
 // ---- an event
@@ -162,66 +155,60 @@ fn ends_at_once(head: &Head, moment: u8, action: usize) -> bool
     requires { action < max_actions }
     ensures { result ≡ eqb moment 1 && not (lasting_in head.now action) }
 {
-    if moment != 1 {
-        return false;
-    }
-    !is_lasting(head, action)
+    moment == 1 && !is_lasting(head, action)
 }
 
-// Kind 18, up to 51: moment, action, objects. Moment 1 is the end of a lasting action.
-fn event_fields(head: &Head, objects: u8, p: &[u8]) -> u64
-    ensures { result ≡ event_fields head.now objects p.now }
+// Kind 18, up to its objects: moment, action, objects. Moment 1 is the end of a lasting action.
+#[tactic(auto, unfolding(crate::specs::Held::event_fields))]
+fn event_fields(head: &Head, objects: Option<NonZeroU8>, p: &[u8]) -> Result<(), Stop>
+    ensures { stopped_by result ≡ event_fields head.now (objects_or_0 objects) p.now }
 {
-    if objects == 0 {
-        return 50;
-    }
+    let Some(objects) = objects else {
+        return Err(Stop::Malformed);
+    };
     if p.len() < 2 {
-        return 50;
+        return Err(Stop::Malformed);
     }
     if 1 < p[0] {
-        return 51;
+        return Err(Stop::NamesNothing);
     }
-    let action = wide(p[1]);
+    let action = usize::from(p[1]);
     if actions_in(head) <= action {
-        return 51;
+        return Err(Stop::NamesNothing);
     }
-    if p.len() != 2 + wide(variables_of(head, action)) {
-        return 50;
+    if p.len() != 2 + usize::from(variables_of(head, action)) {
+        return Err(Stop::Malformed);
     }
-    if ends_at_once(head, p[0], action) {
-        return 51;
+    if ends_at_once(head, p[0], action) || any_from(p, 2, objects.get()) {
+        return Err(Stop::NamesNothing);
     }
-    if any_from(p, 2, objects) {
-        return 51;
-    }
-    0
+    Ok(())
+}
+
+// Whether the byte at a place stands behind it again.
+fn stands_again(p: &[u8], i: usize) -> bool
+    requires { i < length p.now }
+    ensures { result ≡ stands_again p.now i }
+{
+    p[i + 1..].contains(&p[i])
 }
 
 // Whether a byte from `from` on stands twice.
 fn twice_from(p: &[u8], from: usize) -> bool
     ensures { result ≡ not (distinct eqb (drop from p.now)) }
 {
-    let mut i = from;
-    while i < p.len() {
-        if count_from(p, i + 1, p[i]) != 0 {
-            return true;
-        }
-        i += 1;
-    }
-    false
+    (from..p.len()).any(|i| stands_again(p, i))
 }
 
 // Whether the event at a place of those that wait is this one.
+#[tactic(auto, unfolding(crate::specs::Held::waits_at))]
 fn waits_at(moments: &[u8], rows: &[u8], moment: u8, act: &[u8], i: usize) -> bool
     requires moment { i < length moments.now }
     requires event { ground_bytes * i + ground_bytes ≤ length rows.now }
     requires row { length act.now ≡ ground_bytes }
     ensures { result ≡ waits_at moments.now rows.now moment act.now i }
 {
-    if moment == moments[i] {
-        return same_ground(rows, GROUND * i, act);
-    }
-    false
+    moment == moments[i] && same_ground(rows, GROUND * i, act)
 }
 
 // Whether this event waits: an action with objects, at the moment of this byte.
@@ -231,43 +218,35 @@ fn is_waiting(moments: &[u8], rows: &[u8], count: usize, moment: u8, act: [u8; G
     requires events { length rows.now ≡ waiting_bytes }
     ensures { result ≡ any (waits_at moments.now rows.now moment act) (below count) }
 {
-    for i in 0..count {
-        if waits_at(moments, rows, moment, &act, i) {
-            return true;
-        }
-    }
-    false
+    (0..count).any(|i| waits_at(moments, rows, moment, &act, i))
 }
 
 // Kind 18: an event, where so many wait already.
 pub fn event_stop(
     head: &Head,
-    objects: u8,
+    objects: Option<NonZeroU8>,
     moments: &[u8],
     rows: &[u8],
     count: usize,
     p: &[u8],
-) -> u64
+) -> Result<(), Stop>
     requires few { count ≤ max_events }
     requires moments { length moments.now ≡ max_events }
     requires events { length rows.now ≡ waiting_bytes }
-    ensures is { (D : Domain) (es : List Event) → HeadOf D head.now → objects ≤ max_objects
+    ensures is { (D : Domain) (es : List Event) → HeadOf D head.now → objects_or_0 objects ≤ max_objects
         → record { count = count; moments = moments.now; rows = rows.now } ≡ waiting_of es
-        → EventsFit D es → result ≡ event_stop D objects es p.now }
-    ensures fits { result ≡ 0 → (2 ≤ length p.now) × (length p.now ≤ 2 + max_variables) × (count < max_events) }
+        → EventsFit D es → stopped_by result ≡ event_stop D (objects_or_0 objects) es p.now }
+    ensures fits { OnOk result ((2 ≤ length p.now) × (length p.now ≤ 2 + max_variables) × (count < max_events)) }
 {
-    let stop = event_fields(head, objects, p);
-    if stop != 0 {
-        return stop;
-    }
+    event_fields(head, objects, p)?;
     if twice_from(p, 2) {
-        return 53;
+        return Err(Stop::BoundTwice);
     }
     if is_waiting(moments, rows, count, p[0], ground_row(p)) {
-        return 54;
+        return Err(Stop::EventRepeated);
     }
     if MAX_EVENTS <= count {
-        return 52;
+        return Err(Stop::TooMany);
     }
-    0
+    Ok(())
 }

@@ -7,3 +7,4 @@ pub mod Stops
 pub mod Traced
 pub mod Never
 pub mod Tracked
+pub mod Numbers

@@ -9,7 +9,7 @@ use Rattle.records.specs.Memory.{over}
 use Rattle.literals.specs.Domain.{Domain}
 use Rattle.literals.specs.Decode.{Refusal, refused, domain, decode}
 use Rattle.verdict.specs.Judged.{Answer, answer_at, answer_refusal}
-use Rattle.services.specs.Service.{delivered, delivered_to, DeliveredAs, served, served_by, served_after, served_memory_by}
+use Rattle.services.specs.Service.{delivered, delivered_to, DeliveredAs, served, served_by, served_after, served_memory_by, ServedAs}
 
 -- ---- once the bytes are made
 
@@ -23,27 +23,6 @@ module _ (bytes out : List ℕ) where
   delivers h =
       let t = le-ltb (length out) (length bytes) h in
       (ap (λ b. cond b (answer_at 30 0) (answer_at 0 (length bytes))) t, ap (λ b. cond b out (over bytes out)) t)
-
-  -- as the code answers
-  pub leaves_short : length out < length bytes → DeliveredAs bytes out 30 0 out
-  leaves_short h =
-      let r = delivers_short h in
-      record {
-        numbered = sym (ap (λ (a : Answer). a.number) r.0);
-        placed = sym (ap (λ (a : Answer). a.first) r.0);
-        memory = sym
-            r.1;
-      }
-
-  pub leaves_done : length bytes ≤ length out → {after : List ℕ} → after ≡ over bytes out → DeliveredAs bytes out 0 (length bytes) after
-  leaves_done h e =
-      let r = delivers h in
-      record {
-        numbered = sym (ap (λ (a : Answer). a.number) r.0);
-        placed = sym (ap (λ (a : Answer). a.first) r.0);
-        memory = e
-            ∙ sym r.1;
-      }
 
 -- ---- on a file
 
@@ -70,18 +49,17 @@ module _ (bytes_of : Domain → List ℕ) (f out : List ℕ) where
 
 -- as the code answers: the number, the first place, the memory afterwards
 module _ (bytes_of : Domain → List ℕ) (f out : List ℕ) where
-  abbrev pub ServedAs : ℕ → ℕ → List ℕ → Type 0
-  ServedAs n k after = (n ≡ (served bytes_of f out).number) × ((k ≡ (served bytes_of f out).first) × (after ≡ served_after bytes_of f out))
-
-  pub answers_refused : (r : Refusal) → decode f ≡ refused r → ServedAs r.number r.place out
+  pub answers_refused : (r : Refusal) → decode f ≡ refused r → ServedAs bytes_of f out r.number r.place out
   answers_refused r e =
       let s = served_refused bytes_of f out r e in
-      (sym (ap (λ (a : Answer). a.number) s.0), (sym (ap (λ (a : Answer). a.first) s.0), sym s.1))
+      record { numbered = sym (ap (λ (a : Answer). a.number) s.0); placed = sym (ap (λ (a : Answer). a.first) s.0); memory = sym s.1 }
 
   pub answers_read : (D : Domain) → decode f ≡ domain D → {n k : ℕ} {after : List ℕ} → DeliveredAs (bytes_of D) out n k after
-      → ServedAs n k after
+      → ServedAs bytes_of f out n k after
   answers_read D e d =
-      let s = served_read bytes_of f out D e in (
-        d.numbered ∙ sym (ap (λ (a : Answer). a.number) s.0),
-        (d.placed ∙ sym (ap (λ (a : Answer). a.first) s.0), d.memory ∙ sym s.1),
-      )
+      let s = served_read bytes_of f out D e in
+      record {
+        numbered = d.numbered ∙ sym (ap (λ (a : Answer). a.number) s.0);
+        placed = d.placed ∙ sym (ap (λ (a : Answer). a.first) s.0);
+        memory = d.memory ∙ sym s.1;
+      }

@@ -42,3 +42,9 @@ module _ (bytes_of : Domain → List ℕ) where
   unfoldable pub served_after : List ℕ → List ℕ → List ℕ
   unfolding decode over
   served_after f out = served_memory_by (decode f) out
+
+  -- the number, the first place and the memory afterwards are these
+  pub record ServedAs (f out : List ℕ) (number first : ℕ) (after : List ℕ) : Type 0 where
+    pub numbered : number ≡ (served f out).number
+    pub placed : first ≡ (served f out).first
+    pub memory : after ≡ served_after f out

@@ -1,15 +1,19 @@
 -- The facts of an instance: the bytes that the code writes are those of the instance fact. Assumes nothing.
-use mathlib.Core.Path.{◌≡◌, refl, sym, ap, ap₂, ◌∙◌}
-use mathlib.Core.Bool.{Bool, true, cond}
+use mathlib.Core.Path.{◌≡◌, refl, sym, ap, ap₂, subst, ◌∙◌}
+use mathlib.Core.Bool.{Bool, true, false, cond}
+use mathlib.Core.Logic.{◌⊎◌, inl, inr}
+use lib.Dec.{eqb}
+use denote.Param.Members.{Mut, Called}
+use Rattle.std.specs.Array.{IsFromFnResultFrom, IsFromFnResult}
 use mathlib.Core.List.{List, [], ◌∷◌, ◌++◌, map}
 use Prim.Native.Nat.{ℕ, zero, suc, ◌+◌, ◌-◌, ◌≤◌, ◌<◌}
 use native.Mathlib.Omega.{arith}
 use lib.ListN.{length, get_or, take, drop, replicate, length-append, length-map, length-drop, length-replicate, get_or-replicate}
-use lib.ListN.{get_or-append, get_or-eq_default}
-use lib.Seq.{get_or-take, get_or-drop, get_or-append-add, length-take-le, take_at}
-use borrow.Author.Tests.{ltb-true, ne_eqb}
+use lib.ListN.{get_or-append}
+use lib.Seq.{ext_get_or, get_or-take, get_or-drop, get_or-append-add, length-take-le, take_at}
+use borrow.Author.Tests.{ltb-true, ne_eqb, eqb-true, eqb-false}
 use Rattle.records.specs.Lists.{In, all}
-use Rattle.records.proofs.Lists.{and_l, and_r, get_d_in}
+use Rattle.records.proofs.Lists.{and_l, and_r, get_d_in, bool_cases}
 use Rattle.literals.specs.declared.Object.{Object}
 use Rattle.literals.specs.declared.Label.{Label}
 use Rattle.literals.specs.declared.Label.TheVariants.{Key as keyed, Counted}
@@ -28,12 +32,6 @@ use Rattle.store.specs.Held.{object_at, object_byte, instance_bytes, instance_by
 use Rattle.store.proofs.InstanceRows.{objects_row}
 
 -- ---- its bytes
-
-pub object_key : (k : ℕ) (t : List ℕ) → k < 8 → object (get_or t k 0) ≡ object (get_or (take 8 t) k 0)
-object_key k t l = ap object (sym (get_or-take 8 t k 0 l))
-
-pub object_none : (k : ℕ) (t : List ℕ) → 8 ≤ length t → 8 ≤ k → object 0 ≡ object (get_or (take 8 t) k 0)
-object_none k t h l = ap object (sym (get_or-eq_default (take 8 t) 0 (omega (arith, length-take-le 8 t h))))
 
 module _ (arity counted : ℕ) (instance row : List ℕ) (h : length row ≡ 8) (g : arity ≤ 6) where
   abbrev labels : List ℕ
@@ -71,10 +69,6 @@ module _ (arity counted : ℕ) (instance row : List ℕ) (h : length row ≡ 8) 
 
 -- of the component c of a head
 module _ (arity counted : ℕ) (instance head : List ℕ) (c : ℕ) (g : arity ≤ 6) where
-  pub instance_first : (i r : ℕ) → i ≡ 0 → r ≡ get_or (component_row_in head c) 0 0
-      → r ≡ get_or (instance_bytes arity counted instance (component_row_in head c)) i 0
-  instance_first i r e f = f ∙ ap (λ (i : ℕ). get_or (instance_bytes arity counted instance (component_row_in head c)) i 0) (sym e)
-
   pub instance_object : (i r : ℕ) → (i ≡ 0 → ⊥) → (i ≡ 1 → ⊥) → i < 2 + arity
       → r ≡ object_byte counted instance (get_or (component_row_in head c) (i - 1) 0)
       → r ≡ get_or (instance_bytes arity counted instance (component_row_in head c)) i 0
@@ -95,6 +89,23 @@ module _ (arity counted : ℕ) (instance head : List ℕ) (c : ℕ) (g : arity �
 
   pub length_instance_at : length (instance_bytes arity counted instance (component_row_in head c)) ≡ 8
   length_instance_at = length_instance arity counted instance (component_row_in head c) (part_length head c) g
+
+-- eight bytes that a function gave, one for each number below 8
+module _ {F : Type 0} {g : Mut F (ℕ × Unit {0}) ℕ} (f : F) (fact ys : List ℕ) where
+  made_from : (n i : ℕ) → i + n ≡ 8 → IsFromFnResultFrom g f ys i n
+      → ((i y : ℕ) (q : F) → i < 8 → Called g f (i, tt) y q → (q ≡ f) × (y ≡ get_or fact i 0)) → (j : ℕ) → i ≤ j → j < i + n → get_or ys j 0 ≡ get_or fact j 0
+  made_from zero i e ran k j a b = absurd (omega arith)
+  made_from (suc n) i e (q, y, here, called, rest) k j a b =
+      let told = k i y q (omega arith) called in
+      go told.1 (λ l. made_from n (i + 1) (omega arith) (subst (λ (p : F). IsFromFnResultFrom g p ys (i + 1) n) told.0 rest) k j l (omega arith)) (bool_cases (eqb j i))
+    where
+      go : y ≡ get_or fact i 0 → (i + 1 ≤ j → get_or ys j 0 ≡ get_or fact j 0) → (eqb j i ≡ true) ⊎ (eqb j i ≡ false) → get_or ys j 0 ≡ get_or fact j 0
+      go f next (inl t) = let z = eqb-true j i t in ap (λ (m : ℕ). get_or ys m 0) z ∙ here.1 0 ∙ f ∙ ap (λ (m : ℕ). get_or fact m 0) (sym z)
+      go f next (inr t) = let z = eqb-false j i t in next (omega arith)
+
+  pub made_bytes : length fact ≡ 8 → IsFromFnResult g f ys 8
+      → ((i y : ℕ) (q : F) → i < 8 → Called g f (i, tt) y q → (q ≡ f) × (y ≡ get_or fact i 0)) → ys ≡ fact
+  made_bytes n ran k = ext_get_or 0 ys fact (ran.long ∙ sym n) (λ j h. let l = ran.long in made_from 8 0 (omega arith) ran.each k j (omega arith) (omega arith))
 
 -- ---- they are those of the instance fact
 

@@ -1,6 +1,6 @@
 -- Key tuples of facts by the bytes of their rows: the loops that find, weigh and compare them, and what they find in a domain. Assumes nothing.
 use mathlib.Core.Path.{◌≡◌, refl, sym, ap, ap₂, ◌∙◌}
-use mathlib.Core.Bool.{Bool, true, false, ◌&&◌, ◌||◌, not, cond, true≢false, false≢true}
+use mathlib.Core.Bool.{Bool, true, false, ◌&&◌, ◌||◌, not, cond}
 use mathlib.Core.Logic.{◌⊎◌, inl, inr}
 use mathlib.Core.List.Memᴰ
 use mathlib.Core.List.{List, [], ◌∷◌, ◌++◌, map, flat_map, map-append}
@@ -8,9 +8,12 @@ use Prim.Native.Nat.{ℕ, zero, suc, ◌+◌, ◌-◌, ◌*◌, ◌≤◌, ◌<�
 use native.Mathlib.Omega.{arith}
 use lib.Dec.{eqb}
 use lib.ListN.{length, get_or, take, drop, replicate, length-map}
-use lib.Seq.{take_all, drop-drop}
-use Rattle.records.specs.Lists.{In, add_if, keep_if, any, same_list, position}
-use Rattle.records.proofs.Lists.{and_i, or_r, and_r, eqb_same, eqb_comm, same_list_self, same_list_comm, flat_map_in}
+use lib.Pointwise.{pointwise}
+use Rattle.std.specs.Prelude.{Some, None}
+use Rattle.std.specs.List.{fold, filter}
+use lib.Seq.{drop-drop}
+use Rattle.records.specs.Lists.{In, add_if, keep_if, any, same_list, position, count_by, numbers_from, below}
+use Rattle.records.proofs.Lists.{count_map, and_i, or_r, and_r, eqb_same, eqb_comm, same_list_self, same_list_comm, flat_map_in}
 use Rattle.literals.specs.declared.Variable.{Variable}
 use Rattle.literals.specs.declared.Object.{Object}
 use Rattle.literals.specs.declared.Time.TheVariants.{AtStart}
@@ -22,28 +25,32 @@ use Rattle.literals.specs.Domain.{variable, same_object, variables_of, Fact, Lit
 use Rattle.literals.specs.Domain.{Domain}
 use Rattle.literals.specs.Decode.{byte}
 use Rattle.literals.specs.Held.{argument_number, row_of, literal_row, component_row, rows_in, components_in, keys_in, component_row_in}
-use Rattle.literals.specs.Held.{component_rows_in, HeadOf, TemplateOf, under_keys, key_row, key_rows}
+use Rattle.literals.specs.Held.{component_rows_in, HeadOf, TemplateOf, under_keys, key_row, key_rows, starts}
 use Rattle.literals.proofs.Bytes.{keys_once}
-use Rattle.literals.proofs.Rows.{part_first, rows_more, rows_end}
+use Rattle.literals.proofs.Rows.{part_first}
 use Rattle.literals.proofs.Held.{keys_few}
 use Rattle.literals.proofs.Heads.{parts_length, part_row, template_of}
 use Rattle.literals.specs.Matching.{key_tuple, is_of, tuples_by, tuples_of, has_tuple}
 use Rattle.classes.specs.Held.{tuple_row}
-use Rattle.literals.proofs.KeyRows.{place_le}
+use Rattle.literals.proofs.Chains.{rows_are}
 use Rattle.classes.proofs.Numbers.{tuples_rows}
 use Rattle.verdict.specs.Judged.{object_numbers}
 use Rattle.verdict.specs.Machine.{weight, instances_in, largest}
 use Rattle.verdict.proofs.Tuples.{key_tuple_map, component_of_lem}
-use Rattle.store.specs.declared.keys.Keyed.{Keyed}
 use Rattle.store.specs.Held.{FactFits, instance_rows, top_from, keyed_by, row_weight, top_rows}
 use Rattle.verdict.proofs.TopWeight.{tuple_size}
 use borrow.Author.Tests.{eqb-true}
 use Rattle.verdict.specs.Held.{fact_row}
 
--- ---- the key tuple of a row, by the place of its component
+-- ---- rows that are the same, by the library's test
 
-abbrev pub starts : ℕ → List ℕ → Bool
-starts r part = eqb r (byte part 0)
+pub pointwise_same : (xs ys : List ℕ) → pointwise eqb xs ys ≡ same_list eqb xs ys
+pointwise_same [] [] = refl
+pointwise_same [] (y ∷ ys) = refl
+pointwise_same (x ∷ xs) [] = refl
+pointwise_same (x ∷ xs) (y ∷ ys) = ap (λ (b : Bool). eqb x y && b) (pointwise_same xs ys)
+
+-- ---- the key tuple of a row, by the place of its component
 
 module _ (keys r : ℕ) (row : List ℕ) (e : byte row 0 ≡ r) where
   instance_none : (ps : List (List ℕ)) → position (starts r) ps ≡ length ps → instance_rows keys ps row ≡ []
@@ -67,23 +74,21 @@ module _ (keys r : ℕ) (row : List ℕ) (e : byte row 0 ≡ r) where
       go true ih k = refl
       go false ih k = ih (λ z. k (ap suc z))
 
--- the fact at an offset, and the place of its relation's component
-module _ (head memory : List ℕ) (at c : ℕ) (e : c ≡ position (starts (get_or memory at 0)) (component_rows_in head)) where
-  pub component_le : c ≤ components_in head
-  component_le = omega (arith, place_le (starts (get_or memory at 0)) (component_rows_in head), parts_length head)
-
-  pub unmatched : c ≡ components_in head → record { matched = false; row = replicate 8 255 } ≡ keyed_by (instance_rows (keys_in head) (component_rows_in head) (take 8 (drop at memory)))
+-- the fact at an offset, by the place of its relation's component
+module _ (head memory : List ℕ) (at : ℕ) where
+  pub unmatched : position (starts (get_or memory at 0)) (component_rows_in head) ≡ components_in head
+      → None ≡ keyed_by (instance_rows (keys_in head) (component_rows_in head) (take 8 (drop at memory)))
   unfolding keyed_by
   unmatched f =
-      rw (instance_none (keys_in head) (get_or memory at 0) (take 8 (drop at memory)) (part_first memory at) (component_rows_in head) (sym e ∙ f ∙ sym (parts_length head)))
+      rw (instance_none (keys_in head) (get_or memory at 0) (take 8 (drop at memory)) (part_first memory at) (component_rows_in head) (f ∙ sym (parts_length head)))
 
-  pub matched : (c ≡ components_in head → ⊥) → (t : List ℕ) → t ≡ key_row (keys_in head) (component_row_in head c) (take 8 (drop at memory))
-      → record { matched = true; row = t } ≡ keyed_by (instance_rows (keys_in head) (component_rows_in head) (take 8 (drop at memory)))
+  pub matched : (c : ℕ) → c ≡ position (starts (get_or memory at 0)) (component_rows_in head) → c < components_in head
+      → (t : List ℕ) → t ≡ key_row (keys_in head) (component_row_in head c) (take 8 (drop at memory))
+      → Some t ≡ keyed_by (instance_rows (keys_in head) (component_rows_in head) (take 8 (drop at memory)))
   unfolding keyed_by
-  matched h t f =
-      let v : c < components_in head = omega (arith, component_le) in
+  matched c e v t f =
       sym (ap keyed_by
-      (instance_one (keys_in head) (get_or memory at 0) (take 8 (drop at memory)) (part_first memory at) (component_rows_in head) (λ z. h (e ∙ z ∙ parts_length head))
+      (instance_one (keys_in head) (get_or memory at 0) (take 8 (drop at memory)) (part_first memory at) (component_rows_in head) (λ z. let l = parts_length head in omega arith)
       ∙ ap (λ (k : ℕ). key_row (keys_in head) (get_or (component_rows_in head) k []) (take 8 (drop at memory)) ∷ []) (sym e)
       ∙ ap (λ (p : List ℕ). key_row (keys_in head) p (take 8 (drop at memory)) ∷ []) (part_row head c v)
       ∙ ap (λ (x : List ℕ). x ∷ []) (sym f)))
@@ -102,72 +107,54 @@ single keys (p ∷ ps) row = go (eqb (byte row 0) (byte p 0)) (single keys ps ro
     go true h = inr (key_row keys p row, refl)
     go false h = h
 
-module _ (keyed : Keyed) (keys : ℕ) (ps : List (List ℕ)) (fact : List ℕ) (e : keyed ≡ keyed_by (instance_rows keys ps fact)) where
-  pub keyed_none : keyed.matched ≡ false → instance_rows keys ps fact ≡ []
+module _ (keys : ℕ) (ps : List (List ℕ)) (fact : List ℕ) where
+  pub keyed_none : None ≡ keyed_by (instance_rows keys ps fact) → instance_rows keys ps fact ≡ []
   unfolding keyed_by
-  keyed_none h = go (single keys ps fact)
+  keyed_none e = go (single keys ps fact)
     where
       go : Single (instance_rows keys ps fact) → instance_rows keys ps fact ≡ []
       go (inl f) = f
-      go (inr (t, f)) = absurd (true≢false (sym (ap (λ (k : Keyed). k.matched) (e ∙ ap keyed_by f)) ∙ h))
+      go (inr (t, f)) = let q : None ≡ Some t = e ∙ ap keyed_by f in absurd (let z : ◌≡◌ {A = ℕ} 0 1 = cc in omega arith)
 
-  pub keyed_one : keyed.matched ≡ true → instance_rows keys ps fact ≡ keyed.row ∷ []
+  pub keyed_one : (row : List ℕ) → Some row ≡ keyed_by (instance_rows keys ps fact) → instance_rows keys ps fact ≡ row ∷ []
   unfolding keyed_by
-  keyed_one h = go (single keys ps fact)
+  keyed_one row e = go (single keys ps fact)
     where
-      go : Single (instance_rows keys ps fact) → instance_rows keys ps fact ≡ keyed.row ∷ []
-      go (inl f) = absurd (false≢true (sym (ap (λ (k : Keyed). k.matched) (e ∙ ap keyed_by f)) ∙ h))
-      go (inr (t, f)) = f ∙ ap (λ (x : List ℕ). x ∷ []) (sym (ap (λ (k : Keyed). k.row) (e ∙ ap keyed_by f)))
-
--- ---- the weight that one fact adds
-
-module _ (keyed : Keyed) (keys : ℕ) (ps : List (List ℕ)) (fact row : List ℕ) (e : keyed ≡ keyed_by (instance_rows keys ps fact)) where
-  pub adds_none : keyed.matched ≡ false → 0 ≡ add_if (any (same_list eqb row) (instance_rows keys ps fact)) 0
-  adds_none h = rw (keyed_none keyed keys ps fact e h)
-
-  adds_by : keyed.matched ≡ true → length keyed.row ≡ 8 → (b : Bool) → b ≡ same_list eqb row (take 8 (drop 0 keyed.row))
-      → add_if b 0 ≡ add_if (any (same_list eqb row) (instance_rows keys ps fact)) 0
-  adds_by h l b f =
-      rw (keyed_one keyed keys ps fact e h)
-      (ap (λ (t : Bool). add_if t 0) (f ∙ ap (same_list eqb row) (take_all 8 keyed.row (omega arith)) ∙ unit (same_list eqb row keyed.row)))
-    where
-      unit : (b : Bool) → b ≡ b || false
-      unit true = refl
-      unit false = refl
-
-  pub adds_one : keyed.matched ≡ true → length keyed.row ≡ 8 → (b : Bool) → b ≡ same_list eqb row (take 8 (drop 0 keyed.row)) → b ≡ true
-      → 1 ≡ add_if (any (same_list eqb row) (instance_rows keys ps fact)) 0
-  adds_one h l b f t = sym (ap (λ (b : Bool). add_if b 0) t) ∙ adds_by h l b f
-
-  pub adds_other : keyed.matched ≡ true → length keyed.row ≡ 8 → (b : Bool) → b ≡ same_list eqb row (take 8 (drop 0 keyed.row)) → b ≡ false
-      → 0 ≡ add_if (any (same_list eqb row) (instance_rows keys ps fact)) 0
-  adds_other h l b f t = sym (ap (λ (b : Bool). add_if b 0) t) ∙ adds_by h l b f
+      go : Single (instance_rows keys ps fact) → instance_rows keys ps fact ≡ row ∷ []
+      go (inl f) = let q : Some row ≡ None = e ∙ ap keyed_by f in absurd (let z : ◌≡◌ {A = ℕ} 0 1 = cc in omega arith)
+      go (inr (t, f)) = let q : Some row ≡ Some t = e ∙ ap keyed_by f in let z : row ≡ t = cc in f ∙ ap (λ (x : List ℕ). x ∷ []) (sym z)
 
 -- ---- the weight of a row, fact by fact
 
-module _ (keys : ℕ) (ps : List (List ℕ)) (memory row : List ℕ) (n i weight : ℕ) where
-  pub weigh_more : (w : ℕ) → i < n → w ≡ add_if (any (same_list eqb row) (instance_rows keys ps (take 8 (drop (8 * i) memory)))) 0
-      → (weight + w) + row_weight keys ps (rows_in (n - (i + 1)) (drop (8 * (i + 1)) memory)) row ≡ weight + row_weight keys ps (rows_in (n - i) (drop (8 * i) memory)) row
-  unfolding row_weight
-  weigh_more w h e =
-      rw (rows_more 8 memory n i h)
-      (go (any (same_list eqb row) (instance_rows keys ps (take 8 (drop (8 * i) memory)))) (row_weight keys ps (rows_in (n - (i + 1)) (drop (8 * (i + 1)) memory)) row) e)
-    where
-      go : (b : Bool) (m : ℕ) → w ≡ add_if b 0 → (weight + w) + m ≡ weight + add_if b m
-      go true m f = omega arith
-      go false m f = omega arith
+-- a fact with its key tuple, or without
+pub has_none : (keys : ℕ) (ps : List (List ℕ)) (fact row : List ℕ) → instance_rows keys ps fact ≡ [] → false ≡ any (same_list eqb row) (instance_rows keys ps fact)
+has_none keys ps fact row e = rw e
 
-  pub weigh_end : n ≤ i → weight + row_weight keys ps (rows_in (n - i) (drop (8 * i) memory)) row ≡ weight
-  unfolding row_weight
-  weigh_end h = rw (rows_end 8 (drop (8 * i) memory) n i h) (omega arith)
+pub has_one : (keys : ℕ) (ps : List (List ℕ)) (fact row other : List ℕ) → instance_rows keys ps fact ≡ other ∷ []
+    → pointwise eqb row other ≡ any (same_list eqb row) (instance_rows keys ps fact)
+has_one keys ps fact row other e = rw e (pointwise_same row other ∙ unit (same_list eqb row other))
+  where
+    unit : (b : Bool) → b ≡ b || false
+    unit true = refl
+    unit false = refl
 
-pub adds_few : (b : Bool) (w : ℕ) → w ≡ add_if b 0 → w ≤ 1
-adds_few true w e = omega arith
-adds_few false w e = omega arith
+length_filter : {A : Type 0} (p : A → Bool) (xs : List A) → length (filter p xs) ≡ count_by p xs
+length_filter p [] = refl
+length_filter {A} p (x ∷ xs) = go (p x) (length_filter p xs)
+  where
+    go : (b : Bool) → length (filter p xs) ≡ count_by p xs → length (cond b (x ∷ filter p xs) (filter p xs)) ≡ add_if b (count_by p xs)
+    go true h = ap suc h
+    go false h = h
 
-pub weigh_none : (keys : ℕ) (ps : List (List ℕ)) (memory row : List ℕ) (n : ℕ)
-    → 0 + row_weight keys ps (rows_in (n - 0) (drop (8 * 0) memory)) row ≡ row_weight keys ps (rows_in n memory) row
-weigh_none keys ps memory row n = let e : n - 0 ≡ n = omega arith in rw e (omega arith)
+-- those among the first n facts
+pub weigh_all : (keys : ℕ) (ps : List (List ℕ)) (memory row : List ℕ) (n : ℕ)
+    → length (filter (λ i. any (same_list eqb row) (instance_rows keys ps (take 8 (drop (8 * i) memory)))) (below n)) ≡ row_weight keys ps (rows_in n memory) row
+unfolding row_weight
+weigh_all keys ps memory row n =
+    length_filter (λ i. any (same_list eqb row) (instance_rows keys ps (take 8 (drop (8 * i) memory)))) (below n)
+    ∙ sym
+    (ap (count_by (λ fact. any (same_list eqb row) (instance_rows keys ps fact))) (rows_are 8 memory n 0)
+    ∙ count_map (λ i. take 8 (drop (8 * i) memory)) (λ fact. any (same_list eqb row) (instance_rows keys ps fact)) _ (λ i. refl) (below n))
 
 -- ---- the highest weight, fact by fact
 
@@ -183,23 +170,27 @@ module _ (keys : ℕ) (ps facts : List (List ℕ)) (fact : List ℕ) (least : �
   higher_none e = rw e (omega arith)
 
   module _ (row : List ℕ) (e : instance_rows keys ps fact ≡ row ∷ []) (w : ℕ) (f : w ≡ row_weight keys ps facts row) where
-    pub higher_new : least < w → w ≡ max least (largest (map (row_weight keys ps facts) (instance_rows keys ps fact)))
-    higher_new h = rw e (omega arith)
+    pub higher_one : {r : ℕ} → r ≡ max least w → r ≡ max least (largest (map (row_weight keys ps facts) (instance_rows keys ps fact)))
+    higher_one h = rw e (omega arith)
 
     pub higher_old : w ≤ least → least ≡ max least (largest (map (row_weight keys ps facts) (instance_rows keys ps fact)))
     higher_old h = rw e (omega arith)
 
-module _ (keys : ℕ) (ps facts : List (List ℕ)) (memory : List ℕ) (n i top : ℕ) where
-  pub top_more : (r : ℕ) → i < n → r ≡ max top (largest (map (row_weight keys ps facts) (instance_rows keys ps (take 8 (drop (8 * i) memory)))))
-      → max r (top_of keys ps facts (rows_in (n - (i + 1)) (drop (8 * (i + 1)) memory))) ≡ max top (top_of keys ps facts (rows_in (n - i) (drop (8 * i) memory)))
-  unfolding flat_map
-  top_more r h e =
-      let f = largest_append (row_weight keys ps facts) (instance_rows keys ps (take 8 (drop (8 * i) memory))) (flat_map (instance_rows keys ps) (rows_in (n - (i + 1)) (drop (8 * (i + 1)) memory))) in
-      rw (rows_more 8 memory n i h) (omega arith)
+-- what one fact makes of the highest so far
+abbrev pub higher : ℕ → List (List ℕ) → List (List ℕ) → ℕ → List ℕ → ℕ
+higher keys ps facts top fact = max top (largest (map (row_weight keys ps facts) (instance_rows keys ps fact)))
 
-  pub top_end : n ≤ i → max top (top_of keys ps facts (rows_in (n - i) (drop (8 * i) memory))) ≡ top
-  unfolding flat_map
-  top_end h = rw (rows_end 8 (drop (8 * i) memory) n i h) (omega arith)
+-- n facts from row i on
+pub top_folded : (keys : ℕ) (ps facts : List (List ℕ)) (memory : List ℕ) (n i top : ℕ)
+    → fold (λ (t i : ℕ). higher keys ps facts t (take 8 (drop (8 * i) memory))) top (numbers_from i n) ≡ max top (top_of keys ps facts (rows_in n (drop (8 * i) memory)))
+unfolding flat_map
+top_folded keys ps facts memory zero i top = omega arith
+top_folded keys ps facts memory (suc n) i top =
+    let fact : List ℕ = take 8 (drop (8 * i) memory) in
+    let next : drop 8 (drop (8 * i) memory) ≡ drop (8 * (i + 1)) memory = drop-drop 8 (8 * i) memory ∙ ap (λ (k : ℕ). drop k memory) (omega arith) in
+    let f = largest_append (row_weight keys ps facts) (instance_rows keys ps fact) (flat_map (instance_rows keys ps) (rows_in n (drop (8 * (i + 1)) memory))) in
+    let ih = top_folded keys ps facts memory n (i + 1) (higher keys ps facts top fact) in
+    rw next (omega arith)
 
 -- the rows from one place on
 rows_drop : (n from : ℕ) (t : List ℕ) → drop from (rows_in n t) ≡ rows_in (n - from) (drop (8 * from) t)

@@ -14,7 +14,7 @@ use Rattle.records.specs.Lists.{In, add_if, count_by, any, same_list}
 use Rattle.records.proofs.Lists.{off, bool_cases, eqb_same, in_any, any_in, same_list_eq, same_list_self, count_pos, count_none}
 use Rattle.literals.specs.Decode.{byte}
 use Rattle.literals.specs.Held.{rows_in, keys_in, arity_in, component_rows_in}
-use Rattle.store.specs.Held.{instance_rows, row_weight, has_row, note_at, fact_index, wrap, plus, word_of, slot_of, key_slot, amount_at}
+use Rattle.store.specs.Held.{instance_rows, row_weight, has_row, note_at, fact_index, wrap, plus, added, keyed_added, with_fact, word_of, slot_of, key_slot, amount_at}
 use Rattle.store.specs.Held.{total_at, Sized, Indexed}
 use Rattle.store.proofs.InstanceRows.{Single, single}
 
@@ -27,20 +27,6 @@ slot_below row = omega arith
 pub key_below : (t : List ℕ) → key_slot t < 4096
 unfolding key_slot
 key_below t = omega arith
-
-pub slot_by : (row : List ℕ) (a b c d e f g : ℕ) → a ≡ byte row 0 → b ≡ byte row 3 → c ≡ byte row 4 → d ≡ byte row 5 → e ≡ byte row 6 → f ≡ byte row 7 → g ≡ byte row 2
-    → (64 * ((11 * a + b + 3 * c + 5 * d + 7 * e + 9 * f) % 64) + g % 64 ≡ slot_of row) × (64 * ((11 * a + b + 3 * c + 5 * d + 7 * e + 9 * f) % 64) + g % 64 < 4096)
-unfolding slot_of
-slot_by row a b c d e f g p q r s t u v =
-    let m : 11 * a + b + 3 * c + 5 * d + 7 * e + 9 * f ≡ 11 * byte row 0 + byte row 3 + 3 * byte row 4 + 5 * byte row 5 + 7 * byte row 6 + 9 * byte row 7 = omega arith in
-    (ap₂ (λ (x y : ℕ). 64 * (x % 64) + y % 64) m v, omega arith)
-
-pub key_by : (row : List ℕ) (a b c d e f : ℕ) → a ≡ byte row 1 → b ≡ byte row 2 → c ≡ byte row 3 → d ≡ byte row 4 → e ≡ byte row 5 → f ≡ byte row 0
-    → (64 * ((a + 3 * b + 5 * c + 7 * d + 9 * e) % 64) + f % 64 ≡ key_slot row) × (64 * ((a + 3 * b + 5 * c + 7 * d + 9 * e) % 64) + f % 64 < 4096)
-unfolding key_slot
-key_by row a b c d e f p q r s t u =
-    let m : a + 3 * b + 5 * c + 7 * d + 9 * e ≡ byte row 1 + 3 * byte row 2 + 5 * byte row 3 + 7 * byte row 4 + 9 * byte row 5 = omega arith in
-    (ap₂ (λ (x y : ℕ). 64 * (x % 64) + y % 64) m u, omega arith)
 
 -- ---- what one fact adds
 
@@ -378,10 +364,62 @@ module _ {head index : List ℕ} (before after : List (List ℕ)) (row : List �
         (two_less index first second s w I.numbers (omega (arith, slot_below row)) few m n place (total_at (keys_in head) (component_rows_in head) place (before ++ after) + cond (eqb place (8192 + k)) 1 0)
         (g ∙ ap (λ (n : ℕ). n % wrap) (omega (arith, amount_by (keys_in head) (component_rows_in head) row s w place e f, one_key (keys_in head) (component_rows_in head) row place k t z q)))))
 
--- the number behind them stays
-module _ (index after : List ℕ) (p v q : ℕ) where
-  pub beside_at : after ≡ set index p v → p < q → get_or after q 0 ≡ get_or index q 0
-  beside_at e h = ap (λ (l : List ℕ). get_or l q 0) e ∙ get_or-set_other index p q v 0 (λ z. omega arith)
+-- ---- the three numbers of a fact
+
+module _ (keys : ℕ) (component_rows : List (List ℕ)) (row index : List ℕ) (count word : ℕ) where
+  -- as they are written one after the other
+  module _ (s : ℕ) (e : s ≡ slot_of row) (first second : List ℕ) (m : first ≡ added s count index) (n : second ≡ added (4096 + s) word first) where
+    both : second ≡ added (4096 + slot_of row) word (added (slot_of row) count index)
+    both = n ∙ ap₂ (λ (j : ℕ) (l : List ℕ). added (4096 + j) word l) e (m ∙ ap (λ (j : ℕ). added j count index) e)
+
+    pub with_none : instance_rows keys component_rows row ≡ [] → second ≡ with_fact keys component_rows row count word index
+    unfolding with_fact
+    with_none z = both ∙ sym (ap (λ (ts : List (List ℕ)). keyed_added ts count (added (4096 + slot_of row) word (added (slot_of row) count index))) z)
+
+    pub with_one : (t third : List ℕ) (k : ℕ) → instance_rows keys component_rows row ≡ t ∷ [] → k ≡ key_slot t → third ≡ added (8192 + k) count second
+        → third ≡ with_fact keys component_rows row count word index
+    unfolding with_fact
+    with_one t third k z q o =
+        o ∙ ap₂ (λ (j : ℕ) (l : List ℕ). added (8192 + j) count l) q both
+        ∙ sym (ap (λ (ts : List (List ℕ)). keyed_added ts count (added (4096 + slot_of row) word (added (slot_of row) count index))) z)
+
+-- a fact that comes
+pub entered : {head index : List ℕ} {rows : List (List ℕ)} → Indexed head index rows → (row : List ℕ) → byte row 1 ≡ arity_in head (byte row 0) → (w : ℕ) → w ≡ word_of row
+    → (last : List ℕ) → last ≡ with_fact (keys_in head) (component_rows_in head) row 1 w index → Indexed head last (rows ++ (row ∷ []))
+unfolding with_fact
+entered {head} {index} {rows} I row sized w f last e = go (single (keys_in head) (component_rows_in head) row)
+  where
+    first : List ℕ
+    first = added (slot_of row) 1 index
+
+    second : List ℕ
+    second = added (4096 + slot_of row) w first
+
+    by : (ts : List (List ℕ)) → instance_rows (keys_in head) (component_rows_in head) row ≡ ts → last ≡ keyed_added ts 1 second
+    by ts z = e ∙ ap (λ (ts : List (List ℕ)). keyed_added ts 1 second) z
+
+    go : Single (instance_rows (keys_in head) (component_rows_in head) row) → Indexed head last (rows ++ (row ∷ []))
+    go (inl z) = rw (by [] z) (enter_none I row sized first second (slot_of row) w refl f refl refl z)
+    go (inr (t, z)) = enter_one I row sized first second (slot_of row) w refl f refl refl t last (key_slot t) z refl (by (t ∷ []) z)
+
+-- and one that goes
+pub left : {head index : List ℕ} (before after : List (List ℕ)) (row : List ℕ) → Indexed head index (before ++ (row ∷ after)) → (w : ℕ) → w ≡ word_of row → w < wrap
+    → (last : List ℕ) → last ≡ with_fact (keys_in head) (component_rows_in head) row (wrap - 1) (wrap - w) index → Indexed head last (before ++ after)
+unfolding with_fact
+left {head} {index} before after row I w f few last e = go (single (keys_in head) (component_rows_in head) row)
+  where
+    first : List ℕ
+    first = added (slot_of row) (wrap - 1) index
+
+    second : List ℕ
+    second = added (4096 + slot_of row) (wrap - w) first
+
+    by : (ts : List (List ℕ)) → instance_rows (keys_in head) (component_rows_in head) row ≡ ts → last ≡ keyed_added ts (wrap - 1) second
+    by ts z = e ∙ ap (λ (ts : List (List ℕ)). keyed_added ts (wrap - 1) second) z
+
+    go : Single (instance_rows (keys_in head) (component_rows_in head) row) → Indexed head last (before ++ after)
+    go (inl z) = rw (by [] z) (leave_none before after row I first second (slot_of row) w refl f few refl refl z)
+    go (inr (t, z)) = leave_one before after row I first second (slot_of row) w refl f few refl refl t last (key_slot t) z refl (by (t ∷ []) z)
 
 -- ---- whether a fact is held
 

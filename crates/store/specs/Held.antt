@@ -1,6 +1,6 @@
 -- How the code holds facts: as rows of bytes, with their key tuples and the weights of instances by rows; and their index, 12,288
 -- numbers with a note behind them. It only makes the search quicker: which facts are held is said by their rows. Assumes nothing.
-use Rattle.std.specs.Prelude.{◌≡◌, Bool, true, false, cond, ℕ, ◌≤◌, ◌-◌, ◌+◌, ◌*◌, ◌%◌, ◌<◌, eqb, length, drop, replicate, get_or, take}
+use Rattle.std.specs.Prelude.{◌≡◌, Option, Some, None, Bool, cond, ℕ, ◌≤◌, ◌-◌, ◌+◌, ◌*◌, ◌%◌, ◌<◌, eqb, length, drop, replicate, get_or, set, take}
 use mathlib.Core.List.{List, [], ◌∷◌, map, flat_map, ◌++◌}
 use Rattle.records.specs.Lists.{In, count_by, any, same_list, elem}
 use Rattle.literals.specs.Domain.{Fact, Domain, arity, object}
@@ -10,7 +10,6 @@ use Rattle.literals.specs.declared.Object.{Object}
 use Rattle.literals.specs.declared.Label.{Label}
 use Rattle.literals.specs.declared.Label.TheVariants.{Key as keyed, Counted}
 use Rattle.verdict.specs.Machine.{weight, instances_in, largest}
-use Rattle.store.specs.declared.keys.Keyed.{Keyed}
 
 -- ---- rows
 
@@ -45,9 +44,9 @@ top_from D fs from = largest (map (λ y. weight D y fs) (instances_in D (drop fr
 -- ---- weighing
 
 -- of the key tuples of a fact's row, none or one
-unfoldable pub keyed_by : List (List ℕ) → Keyed
-keyed_by [] = record { matched = false; row = replicate 8 255 }
-keyed_by (t ∷ ts) = record { matched = true; row = t }
+unfoldable pub keyed_by : List (List ℕ) → Option (List ℕ)
+keyed_by [] = None
+keyed_by (t ∷ ts) = Some t
 
 -- the weight of the instance whose key tuple has this row
 unfoldable pub row_weight : ℕ → List (List ℕ) → List (List ℕ) → List ℕ → ℕ
@@ -106,6 +105,10 @@ wrap = 72057594037927936
 abbrev pub plus : ℕ → ℕ → ℕ
 plus sum amount = (sum % wrap + amount) % wrap
 
+-- an amount added to the number at a place
+abbrev pub added : ℕ → ℕ → List ℕ → List ℕ
+added place amount index = set index place (plus (get_or index place 0) amount)
+
 -- a fact's row as one number: its relation and arguments
 unfoldable pub word_of : List ℕ → ℕ
 word_of row =
@@ -119,6 +122,18 @@ slot_of row =
 -- the slot of an instance, of 4,096: of one or two keys each has its own
 unfoldable pub key_slot : List ℕ → ℕ
 key_slot t = 64 * ((byte t 1 + 3 * byte t 2 + 5 * byte t 3 + 7 * byte t 4 + 9 * byte t 5) % 64) + byte t 0 % 64
+
+-- at the slots of key tuples, none or one
+abbrev pub keyed_added : List (List ℕ) → ℕ → List ℕ → List ℕ
+keyed_added [] amount index = index
+keyed_added (t ∷ ts) amount index = added (instances_at + key_slot t) amount index
+
+-- an index with amounts added for a fact's row: one to the facts of its slot and to those of its instance's slot, one to the words of its
+-- slot
+unfoldable pub with_fact : ℕ → List (List ℕ) → List ℕ → ℕ → ℕ → List ℕ → List ℕ
+unfolding slot_of key_slot instance_rows
+with_fact keys component_rows row count word index =
+    keyed_added (instance_rows keys component_rows row) count (added (words_at + slot_of row) word (added (slot_of row) count index))
 
 -- what a fact adds to the number at a place: 1 to the facts of its slot, its word to the words there, 1 to the facts of its
 -- instance's slot

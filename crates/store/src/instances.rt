@@ -8,18 +8,15 @@ ghost use Rattle.literals.specs.Held.{component_row_in};
 ghost use Rattle.store.specs.Held.{object_at, instance_bytes, instance_bytes_in};
 
 use literals::head::{Head, arity_of, component_byte};
-use literals::{Key, Label, Object, label_of};
+use literals::{Key, Label, Object};
+use std::array;
 
 // The object under a key of an instance.
 fn object_at(instance: &[u8], k: Key) -> Object
     requires { 8 ≤ length instance.now }
     ensures { result ≡ object (get_or (take 8 instance.now) k.0 0) }
 {
-    if k.0 < 8 {
-        let o = instance[k.0 as usize];
-        return Object(o);
-    }
-    Object(0)
+    Object(instance[..8].get(usize::from(k.0)).copied().unwrap_or(0))
 }
 
 // The object under a label: a given one where it is counted.
@@ -42,18 +39,15 @@ fn instance_byte(head: &Head, c: usize, arity: u8, instance: &[u8], counted: Obj
     ensures { result
         ≡ get_or (instance_bytes arity counted.0 (take 8 instance.now) (component_row_in head.now c)) i 0 }
 {
-    if i == 0 {
-        return component_byte(head, c, 0);
+    match i {
+        0 => component_byte(head, c, 0),
+        1 => arity,
+        _ if i < 2 + usize::from(arity) => {
+            let label = Label::from(component_byte(head, c, i - 1));
+            object_under(instance, label, counted).0
+        }
+        _ => 255,
     }
-    if i == 1 {
-        return arity;
-    }
-    if i < 2 + arity as usize {
-        let label = label_of(component_byte(head, c, i - 1));
-        let o = object_under(instance, label, counted);
-        return o.0;
-    }
-    255
 }
 
 // Writes the fact of an instance that the component `c` has with this object in its counted place, at an offset.
@@ -72,7 +66,6 @@ pub fn put_instance(
         ≡ paste out.old at (instance_bytes_in head.now c counted.0 (take 8 instance.now)) 8 }
 {
     let arity = arity_of(head, component_byte(head, c, 0));
-    for i in 0..8 {
-        out[at + i] = instance_byte(head, c, arity, instance, counted, i);
-    }
+    let bytes: [u8; 8] = array::from_fn(|i| instance_byte(head, c, arity, instance, counted, i));
+    out[at..at + 8].copy_from_slice(&bytes);
 }

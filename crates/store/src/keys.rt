@@ -3,31 +3,15 @@ ghost use Rattle.std.specs.Prelude.{◌≡◌, ◌+◌, ◌≤◌, length, take,
 ghost use Rattle.literals.specs.Held.{keys_in, component_rows_in};
 ghost use Rattle.store.specs.Held.{instance_rows, keyed_by};
 
-use literals::head::{Head, components_in};
+use literals::head::Head;
 use literals::keys::{component_of, key_tuple};
 
-// The key tuple of a fact, as a row, where its relation has a component.
-#[derive(Clone, Copy)]
-pub struct Keyed {
-    pub matched: bool,
-    pub row: [u8; 8],
-}
-
-// The key tuple of the fact at an offset.
-pub fn key_of(head: &Head, memory: &[u8], at: usize) -> Keyed
+// The key tuple of the fact at an offset, as a row, if its relation has a component.
+pub fn key_of(head: &Head, memory: &[u8], at: usize) -> Option<[u8; 8]>
     requires { at + 8 ≤ length memory.now }
     ensures { result ≡ keyed_by
         (instance_rows (keys_in head.now) (component_rows_in head.now) (take 8 (drop at memory.now))) }
 {
-    let c = component_of(head, memory[at]);
-    if c == components_in(head) {
-        return Keyed {
-            matched: false,
-            row: [255u8; 8],
-        };
-    }
-    Keyed {
-        matched: true,
-        row: key_tuple(head, c, memory, at),
-    }
+    let c = component_of(head, memory[at])?;
+    Some(key_tuple(head, c, memory, at))
 }

@@ -9,24 +9,27 @@ ghost use Rattle.store.specs.Held.{FactFits, instance_rows, top_from, row_weight
 
 use super::index::{FactIndex, INSTANCES, key_slot};
 use super::keys::key_of;
-use super::rows::same_row;
 use literals::head::Head;
 
-// 1 where the fact at an offset has this key tuple, else 0: the component by the fact's relation first, then its keys.
+// Whether the fact at an offset has this key tuple: the component by the fact's relation first, then its keys.
+fn has_key(head: &Head, memory: &[u8], at: usize, row: [u8; 8]) -> bool
+    requires { at + 8 ≤ length memory.now }
+    ensures { result ≡ any (same_list eqb row)
+        (instance_rows (keys_in head.now) (component_rows_in head.now) (take 8 (drop at memory.now))) }
+{
+    match key_of(head, memory, at) {
+        Some(other) => row == other,
+        None => false,
+    }
+}
+
+// 1 where the fact at an offset has this key tuple, else 0.
 pub fn weight_at(head: &Head, memory: &[u8], at: usize, row: [u8; 8]) -> usize
     requires { at + 8 ≤ length memory.now }
     ensures { result ≡ add_if (any (same_list eqb row)
         (instance_rows (keys_in head.now) (component_rows_in head.now) (take 8 (drop at memory.now)))) 0 }
 {
-    let keyed = key_of(head, memory, at);
-    if !keyed.matched {
-        return 0;
-    }
-    let other = keyed.row;
-    if same_row(&other, 0, row) {
-        return 1;
-    }
-    0
+    usize::from(has_key(head, memory, at, row))
 }
 
 // The weight of the instance with this key tuple among the first n facts.
@@ -35,13 +38,9 @@ pub fn weigh(head: &Head, memory: &[u8], n: usize, row: [u8; 8]) -> usize
     ensures { result ≡ row_weight (keys_in head.now) (component_rows_in head.now)
         (rows_in n memory.now) row }
 {
-    let mut weight: usize = 0;
-    let mut i: usize = 0;
-    while i < n {
-        weight += weight_at(head, memory, 8 * i, row);
-        i += 1;
-    }
-    weight
+    (0..n)
+        .filter(|i| has_key(head, memory, 8 * *i, row))
+        .count()
 }
 
 // The higher of `least` and the weight of the instance of the fact at an offset, among the first n facts; it is weighed only
@@ -62,19 +61,16 @@ fn heavier(
         (row_weight (keys_in head.now) (component_rows_in head.now) (rows_in n memory.now))
         (instance_rows (keys_in head.now) (component_rows_in head.now) (take 8 (drop at memory.now))))) }
 {
-    let keyed = key_of(head, memory, at);
-    if !keyed.matched {
-        return least;
+    match key_of(head, memory, at) {
+        Some(row) => {
+            if index[INSTANCES + key_slot(row)] <= least as u64 {
+                least
+            } else {
+                least.max(weigh(head, memory, n, row))
+            }
+        }
+        None => least,
     }
-    let row = keyed.row;
-    if index[INSTANCES + key_slot(row)] <= least as u64 {
-        return least;
-    }
-    let weight = weigh(head, memory, n, row);
-    if least < weight {
-        return weight;
-    }
-    least
 }
 
 // The highest of `least` and the weights of the instances of the facts from one place on, among the first n facts.
@@ -96,11 +92,5 @@ pub fn top_from(
         → rows_in n memory.now ≡ map fact_row fs → ((f : Fact) → In f fs → FactFits D f)
         → result ≡ max least (top_from D fs from) }
 {
-    let mut top = least;
-    let mut i = from;
-    while i < n {
-        top = heavier(head, memory, n, 8 * i, top, index);
-        i += 1;
-    }
-    top
+    (from..n).fold(least, |top, i| heavier(head, memory, n, 8 * i, top, index))
 }

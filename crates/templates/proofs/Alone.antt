@@ -1,5 +1,6 @@
 -- A template of one component: an action none of whose literals has its relation has no class, and what the decision can be. Assumes
 -- nothing.
+use Rattle.std.specs.Prelude.{Option, None, Some}
 use mathlib.Core.Path.{◌≡◌, refl, sym, ap, ◌∙◌}
 use mathlib.Core.Bool.{Bool, true, false, cond, ◌&&◌}
 use mathlib.Core.List.{List, [], ◌∷◌, ◌++◌, map, flat_map, nil≢cons, cons≢nil, head-eq_of_cons-eq, tail-eq_of_cons-eq}
@@ -23,7 +24,6 @@ use Rattle.classes.proofs.Rows.{literal_at, no_literal, relation_at}
 use Rattle.verdict.specs.Decision.{rows_of_classes}
 use Rattle.verdict.specs.Judged.{Answer, answer_at, decided}
 use Rattle.verdict.specs.declared.Place.{Place}
-use Rattle.verdict.specs.declared.Place.TheVariants.{Missing, Found}
 use Rattle.verdict.specs.declared.Notes.{Notes}
 use Rattle.verdict.specs.Summaries.{summary_rows, summary_of, summaries, notes_of, answer_place, faultless, decide_notes, decided_summaries}
 use Rattle.records.specs.Memory.{over}
@@ -84,9 +84,9 @@ module _ {D : Domain} {a : Action} {head rows : List ℕ} (A : ActionOf D a head
 
 -- ---- every decision is a byte
 
-place_range : (n : ℕ) (p : Place) (a : Answer) → n < 256 → a.number < 256 → (answer_place n p a).number < 256
-place_range n Missing a h k = k
-place_range n (Found i c m) a h k = h
+place_range : (n : ℕ) (p : Option Place) (a : Answer) → n < 256 → a.number < 256 → (answer_place n p a).number < 256
+place_range n None a h k = k
+place_range n (Some p) a h k = h
 
 faultless_range : (n : Notes) → (faultless n).number < 256
 faultless_range n = go n.endless

@@ -1,21 +1,19 @@
 -- The entries of the list as the code writes them: a component's payload, one entry more, and where listing stands. Assumes nothing.
 use mathlib.Core.Path.{◌≡◌, refl, sym, ap, ap₂, subst, ◌∙◌}
-use mathlib.Core.Bool.{Bool, true, false, cond, ◌&&◌}
-use mathlib.Core.Logic.{◌⊎◌, inl, inr}
-use mathlib.Core.Option.{none, some}
+use mathlib.Core.Bool.{Bool, true, false, ◌&&◌}
+use Rattle.std.specs.Prelude.{Option, None as none, Some as some}
 use mathlib.Core.List.{List, [], ◌∷◌, ◌++◌, map, map-append, flat_map, append_assoc, append-nil}
-use Prim.Native.Nat.{ℕ, zero, suc, ◌+◌, ◌-◌, ◌*◌, ◌≤◌, ◌<◌}
-use native.Mathlib.Nat.{sub-zero}
+use Prim.Native.Nat.{ℕ, zero, suc, ◌+◌, ◌*◌, ◌≤◌, ◌<◌}
 use native.Mathlib.Numerals.{add-one}
 use native.Mathlib.Omega.{arith}
-use lib.Dec.{eqb}
-use lib.ListN.{length, get_or, set, take, drop, length-append, length-drop}
-use lib.Seq.{take_all, take_at}
-use borrow.Author.Tests.{eqb-true, eq-eqb, ne_eqb, lt-ltb, le-ltb}
+use lib.ListN.{length, get_or, take, drop, length-append}
+use lib.Seq.{take_all, take_at, paste}
+use borrow.Author.Tests.{eq-eqb, ne_eqb, lt-ltb, le-ltb}
+use Rattle.std.proofs.lemmas.List.FromFn.{take-map-range_with_len}
 use Rattle.records.specs.Lists.{all, keep_if, filter_by, numbers_from, below}
 use Rattle.records.specs.Memory.{over}
 use Rattle.records.proofs.Lists.{and_i, filter_append, flat_map_append}
-use Rattle.records.proofs.Memory.{over_more}
+use Rattle.records.proofs.Memory.{over_paste}
 use Rattle.literals.specs.Domain.{Component, key_below, Domain, arity, bare, label_number}
 use Rattle.literals.specs.Decode.{component_of, component_record, stop_of, extend}
 use Rattle.literals.specs.Held.{table_bytes, relations_in, arity_in, Filled, Held}
@@ -24,86 +22,62 @@ use Rattle.reading.specs.Held.{domain_after, HeldOver, TakesRow}
 use Rattle.reading.proofs.Takes.{behind_done, held_over}
 use Rattle.verdict.specs.Claims.{well_formed}
 use Rattle.literals.proofs.Indices.{below_snoc}
-use Rattle.services.specs.Service.{DeliveredAs}
 use Rattle.templates.specs.Templates.{keys_from, labels_from, labels_with, Shape, shape, component_at, shapes_of, shapes_from, shapes}
 use Rattle.templates.specs.Templates.{single, component_bytes, legal_alone, listed, place_byte, verdict_of, entry, list_bytes}
-use Rattle.templates.specs.Held.{label_at, payload_of, place_of_byte, shape_of, entries_of, BareHeld, Listing, PlaceFits, shapes_up_to}
-use Rattle.templates.proofs.Labels.{PlaceBelow, with_keys}
+use Rattle.templates.specs.Held.{label_at, payload_of, entries_of, BareHeld, Listing, PlaceBelow, shapes_up_to}
+use Rattle.templates.proofs.Labels.{with_keys}
 use Rattle.templates.proofs.Legal.{component_back, legal_well_formed}
 
 -- ---- the payload of a component
 
 keys_numbers : (k n : ℕ) → map label_number (keys_from k n) ≡ numbers_from k n
 keys_numbers k zero = refl
-keys_numbers k (suc n) = ap {B = List ℕ} (λ l. k ∷ l) (keys_numbers (suc k) n)
+keys_numbers k (suc n) =
+    ap {B = List ℕ} (λ l. k ∷ l) (ap (λ j. map label_number (keys_from j n)) (sym (add-one k)) ∙ keys_numbers (k + 1) n)
 
-label_low : (b i : ℕ) → i < b → label_at b i ≡ i
+label_low : (b i : ℕ) → i < b → label_at (some b) i ≡ i
 label_low b i h = rw (lt-ltb i b h)
 
-label_here : (b : ℕ) → label_at b b ≡ 255
+label_here : (b : ℕ) → label_at (some b) b ≡ 255
 label_here b = rw (le-ltb b b (omega arith), eq-eqb b b refl)
 
-label_high : (b i : ℕ) → b ≤ i → label_at b (suc i) ≡ i
-label_high b i h = rw (le-ltb (suc i) b (omega arith), ne_eqb (suc i) b (λ e. omega arith)) (omega arith)
+label_high : (b i : ℕ) → b ≤ i → label_at (some b) (i + 1) ≡ i
+label_high b i h = rw (le-ltb (i + 1) b (omega arith), ne_eqb (i + 1) b (λ e. omega arith)) (omega arith)
 
-labels_low : (b k n : ℕ) → k + n ≤ b → map (label_at b) (numbers_from k n) ≡ numbers_from k n
-labels_low b k zero h = refl
-labels_low b k (suc n) h = ap₂ ◌∷◌ (label_low b k (omega arith)) (labels_low b (suc k) n (omega arith))
+labels_plain : (k n : ℕ) → map (label_at none) (numbers_from k n) ≡ numbers_from k n
+labels_plain k zero = refl
+labels_plain k (suc n) = ap {B = List ℕ} (λ l. k ∷ l) (labels_plain (k + 1) n)
 
-labels_high : (b k n : ℕ) → b ≤ k → map (label_at b) (numbers_from (suc k) n) ≡ numbers_from k n
+labels_high : (b k n : ℕ) → b ≤ k → map (label_at (some b)) (numbers_from (k + 1) n) ≡ numbers_from k n
 labels_high b k zero h = refl
-labels_high b k (suc n) h = ap₂ ◌∷◌ (label_high b k h) (labels_high b (suc k) n (omega arith))
+labels_high b k (suc n) h = ap₂ ◌∷◌ (label_high b k h) (labels_high b (k + 1) n (omega arith))
 
-labels_counted : (k n p : ℕ) → p < n → map label_number (labels_from k n p) ≡ map (label_at (k + p)) (numbers_from k n)
+labels_counted : (k n p : ℕ) → p < n → map label_number (labels_from k n p) ≡ map (label_at (some (k + p))) (numbers_from k n)
 labels_counted k zero p h = absurd (omega arith)
 labels_counted k (suc n) zero h =
     let z : k + 0 ≡ k = omega arith in
     ap₂ ◌∷◌ (sym (label_here k)) (keys_numbers k n ∙ sym (labels_high k k n (omega arith)))
-    ∙ ap (λ (b : ℕ). map (label_at b) (numbers_from k (suc n))) (sym z)
+    ∙ ap (λ (b : ℕ). map (label_at (some b)) (numbers_from k (suc n))) (sym z)
 labels_counted k (suc n) (suc p) h =
-    let z : suc k + p ≡ k + suc p = omega arith in
+    let z : k + 1 + p ≡ k + suc p = omega arith in
     ap₂ ◌∷◌ (sym (label_low (k + suc p) k (omega arith)))
-    (labels_counted (suc k) n p (omega arith) ∙ ap (λ (b : ℕ). map (label_at b) (numbers_from (suc k) n)) z)
+    (ap (λ j. map label_number (labels_from j n p)) (sym (add-one k))
+    ∙ labels_counted (k + 1) n p (omega arith) ∙ ap (λ (b : ℕ). map (label_at (some b)) (numbers_from (k + 1) n)) z)
 
--- the labels of n places, by the byte of the counted one
-labels_are : (n b : ℕ) → n ≤ 6 → (b ≡ 255) ⊎ (b < n) → map label_number (labels_with n (place_of_byte b)) ≡ map (label_at b) (below n)
-labels_are n b h (inl e) =
-    ap (λ (t : Bool). map label_number (labels_with n (cond t none (some b)))) (eq-eqb b 255 e)
-    ∙ keys_numbers 0 n ∙ sym (labels_low b 0 n (omega arith))
-labels_are n b h (inr l) =
-    let z : 0 + b ≡ b = omega arith in
-    ap (λ (t : Bool). map label_number (labels_with n (cond t none (some b)))) (ne_eqb b 255 (λ e. omega arith))
-    ∙ labels_counted 0 n b l ∙ ap (λ (k : ℕ). map (label_at k) (below n)) z
+-- the labels of n places
+labels_are : (n : ℕ) (o : Option ℕ) → PlaceBelow n o → map label_number (labels_with n o) ≡ map (label_at o) (below n)
+labels_are n none h = keys_numbers 0 n ∙ sym (labels_plain 0 n)
+labels_are n (some p) h =
+    let z : 0 + p ≡ p = omega arith in
+    labels_counted 0 n p h ∙ ap (λ (k : ℕ). map (label_at (some k)) (below n)) z
 
-take_labels : (f : ℕ → ℕ) (k n m : ℕ) → n ≤ m → take n (map f (numbers_from k m)) ≡ map f (numbers_from k n)
-take_labels f k zero m h = refl
-take_labels f k (suc n) zero h = absurd (omega arith)
-take_labels f k (suc n) (suc m) h = ap {B = List ℕ} (λ l. f k ∷ l) (take_labels f (suc k) n m (omega arith))
-
-pub payload_is : (D : Domain) (r b n : ℕ) → arity D r ≤ 6 → PlaceFits D r b → n ≡ arity D r + 1
-    → take n (payload_of r b) ≡ component_bytes (component_at D (shape_of r b))
-payload_is D r b n l h e =
-    ap (λ (k : ℕ). take k (payload_of r b)) (e ∙ add-one (arity D r))
-    ∙ ap {B = List ℕ} (λ l. r ∷ l) (take_labels (label_at b) 0 (arity D r) 6 l ∙ sym (labels_are (arity D r) b l h))
-
--- a place of the relation, or none
-pub place_below : (n b : ℕ) → n ≤ 6 → (b ≡ 255) ⊎ (b < n) → PlaceBelow n (place_of_byte b)
-place_below n b h (inl e) = subst (λ (t : Bool). PlaceBelow n (cond t none (some b))) (sym (eq-eqb b 255 e)) tt
-place_below n b h (inr l) = subst (λ (t : Bool). PlaceBelow n (cond t none (some b))) (sym (ne_eqb b 255 (λ e. omega arith))) l
-
-pub place_byte_lem : (b : ℕ) → place_byte (place_of_byte b) ≡ b
-place_byte_lem b = go (eqb b 255) refl
-  where
-    go : (t : Bool) → eqb b 255 ≡ t → place_byte (cond t none (some b)) ≡ b
-    go true e = sym (eqb-true b 255 e)
-    go false e = refl
+pub payload_is : (D : Domain) (r : ℕ) (o : Option ℕ) (n : ℕ) → arity D r ≤ 6 → PlaceBelow (arity D r) o → n ≡ arity D r + 1
+    → take n (payload_of r o) ≡ component_bytes (component_at D (shape r o))
+payload_is D r o n l h e =
+    ap (λ (k : ℕ). take k (payload_of r o)) (e ∙ add-one (arity D r))
+    ∙ ap {B = List ℕ} (λ l. r ∷ l) (take-map-range_with_len (label_at o) 0 6 (arity D r) l ∙ sym (labels_are (arity D r) o h))
 
 -- ---- one entry more
-
--- there is room behind what is written
-room_behind : (new old : List ℕ) → length new + 3 ≤ length (over new old) → length new + 3 ≤ length old
-unfolding over
-room_behind new old h = let l = length-append new (drop (length new) old) in let d = length-drop (length new) old in omega arith
 
 module _ (D : Domain) (ss : List Shape) (s : Shape) where
   abbrev legal : Shape → Bool
@@ -131,13 +105,14 @@ module _ (D : Domain) (ss : List Shape) (s : Shape) where
         let e = sym (entries_passed t) in
         record { written = L.written ∙ ap length e; bytes = L.bytes ∙ ap (λ (l : List ℕ). over l old) e }
 
-    pub listing_more : legal s ≡ true → (r b v : ℕ) → entry D s ≡ r ∷ b ∷ v ∷ [] → at + 3 ≤ length list
-        → Listing D (ss ++ (s ∷ [])) (at + 3) (set (set (set list at r) (at + 1) b) (at + 2) v) old
-    listing_more t r b v e h =
+    pub listing_more : legal s ≡ true → (r b v : ℕ) → entry D s ≡ r ∷ b ∷ v ∷ [] → {next : List ℕ}
+        → next ≡ paste list at (r ∷ b ∷ v ∷ []) 3 → Listing D (ss ++ (s ∷ [])) (at + 3) next old
+    listing_more t r b v e q =
         record {
           written = (let l = length-append new (r ∷ b ∷ v ∷ []) in let w = L.written in
               let g : length (new ++ (r ∷ b ∷ v ∷ [])) ≡ at + 3 = omega arith in sym g) ∙ ap length (sym same);
-          bytes = made ∙ ap (λ (l : List ℕ). over l old) (sym same);
+          bytes = q ∙ ap (λ (l : List ℕ). paste l at (r ∷ b ∷ v ∷ []) 3) L.bytes
+              ∙ over_paste new old (r ∷ b ∷ v ∷ []) at 3 (sym L.written) refl ∙ ap (λ (l : List ℕ). over l old) (sym same);
         }
       where
         new : List ℕ
@@ -146,39 +121,22 @@ module _ (D : Domain) (ss : List Shape) (s : Shape) where
         same : entries_of D (ss ++ (s ∷ [])) ≡ new ++ (r ∷ b ∷ v ∷ [])
         same = entries_more t ∙ ap (λ (l : List ℕ). new ++ l) e
 
-        long : length new ≡ at
-        long = sym L.written
-
-        room : at + 3 ≤ length old
-        room = let e = ap length L.bytes in let l = long in let g = room_behind new old (omega arith) in omega arith
-
-        made : set (set (set list at r) (at + 1) b) (at + 2) v ≡ over (new ++ (r ∷ b ∷ v ∷ [])) old
-        made =
-            let l₁ : length (new ++ (r ∷ [])) ≡ at + 1 = (let l = length-append new (r ∷ []) in let w = long in omega arith) in
-            let l₂ : length ((new ++ (r ∷ [])) ++ (b ∷ [])) ≡ at + 2 = (let l = length-append (new ++ (r ∷ [])) (b ∷ []) in omega arith) in
-            let q = room in
-            ap (λ (t : List ℕ). set (set (set t at r) (at + 1) b) (at + 2) v) L.bytes
-            ∙ ap (λ (t : List ℕ). set (set t (at + 1) b) (at + 2) v) (over_more new old at r long (omega arith))
-            ∙ ap (λ (t : List ℕ). set t (at + 2) v) (over_more (new ++ (r ∷ [])) old (at + 1) b l₁ (omega arith))
-            ∙ over_more ((new ++ (r ∷ [])) ++ (b ∷ [])) old (at + 2) v l₂ (omega arith)
-            ∙ ap (λ (t : List ℕ). over t old) (append_assoc (new ++ (r ∷ [])) (b ∷ []) (v ∷ []) ∙ append_assoc new (r ∷ []) (b ∷ v ∷ []))
-
 -- ---- a component that reading takes into the head without a template
 
-module _ {D : Domain} {head table : List ℕ} (B : BareHeld D head table) (r b : ℕ) (P : PlaceFits D r b) where
+module _ {D : Domain} {head table : List ℕ} (B : BareHeld D head table) (r : ℕ) (o : Option ℕ) (P : PlaceBelow (arity D r) o) where
   few : arity D r ≤ 6
   few = arity_six D B.holds.filled.says.bounded.arities r
 
   abbrev component : Component
-  component = component_at D (shape_of r b)
+  component = component_at D (shape r o)
 
   keys : all (key_below 255) component.labels ≡ true
-  keys = with_keys (arity D r) (place_of_byte b) few (place_below (arity D r) b few P)
+  keys = with_keys (arity D r) o few P
 
-  module _ {n k : ℕ} {p after : List ℕ} (e : n ≡ arity_in head r) (q : p ≡ take (n + 1 - 0) (payload_of r b))
+  module _ {n k : ℕ} {p after : List ℕ} (e : n ≡ arity_in head r) (q : p ≡ take (n + 1) (payload_of r o))
       (T : TakesRow component_record p k head table after table) where
     payload : p ≡ component_bytes component
-    payload = q ∙ payload_is D r b (n + 1 - 0) few P (sub-zero (n + 1) ∙ ap (λ (m : ℕ). m + 1) (e ∙ B.holds.filled.says.arities r))
+    payload = q ∙ payload_is D r o (n + 1) few P (ap (λ (m : ℕ). m + 1) (e ∙ B.holds.filled.says.arities r))
 
     stopped : k ≡ stop_of (bare D) component_record (component_bytes component)
     stopped = (T (bare D) B.old B.holds).0 ∙ ap (stop_of (bare D) component_record) payload
@@ -203,8 +161,9 @@ module _ {D : Domain} {head table : List ℕ} (B : BareHeld D head table) (r b :
     taken_formed z = legal_well_formed D component B.formed (taken_entry z)
 
 -- the bytes of an entry
-pub entry_is : (D : Domain) (r b v : ℕ) → v ≡ verdict_of D (component_at D (shape_of r b)) → entry D (shape_of r b) ≡ r ∷ b ∷ v ∷ []
-entry_is D r b v e = λ i. r ∷ place_byte_lem b i ∷ sym e i ∷ []
+pub entry_is : (D : Domain) (r : ℕ) (o : Option ℕ) (b v : ℕ) → b ≡ place_byte o → v ≡ verdict_of D (component_at D (shape r o))
+    → entry D (shape r o) ≡ r ∷ b ∷ v ∷ []
+entry_is D r o b v h e = λ i. r ∷ sym h i ∷ sym e i ∷ []
 
 -- ---- the places of a relation
 
@@ -222,26 +181,24 @@ pub places_none : {D : Domain} (ss : List Shape) (r : ℕ) {end : ℕ} {list old
 places_none {D} ss r {end} {list} {old} L = subst (λ (l : List Shape). Listing D l end list old) (sym (append-nil ss)) L
 
 module _ {D : Domain} (ss : List Shape) (r : ℕ) {end : ℕ} {list old : List ℕ} where
-  pub places_next : (k : ℕ) → k < 6 → Listing D ((ss ++ map (λ p. shape r (some p)) (below k)) ++ (shape_of r k ∷ [])) end list old
+  pub places_next : (k : ℕ) → Listing D ((ss ++ map (λ p. shape r (some p)) (below k)) ++ (shape r (some k) ∷ [])) end list old
       → Listing D (ss ++ map (λ p. shape r (some p)) (below (k + 1))) end list old
-  places_next k h L =
+  places_next k L =
       subst (λ (l : List Shape). Listing D l end list old)
-      (append_assoc ss (map place (below k)) (shape_of r k ∷ []) ∙ ap (λ (l : List Shape). ss ++ l) more) L
+      (append_assoc ss (map place (below k)) (shape r (some k) ∷ []) ∙ ap (λ (l : List Shape). ss ++ l) more) L
     where
       place : ℕ → Shape
       place p = shape r (some p)
 
-      more : map place (below k) ++ (shape_of r k ∷ []) ≡ map place (below (k + 1))
-      more =
-          ap (λ (t : Bool). map place (below k) ++ (shape r (cond t none (some k)) ∷ [])) (ne_eqb k 255 (λ e. omega arith))
-          ∙ sym (ap (λ (n : ℕ). map place (below n)) (add-one k) ∙ ap (map place) (below_snoc k) ∙ map-append place (below k) (k ∷ []))
+      more : map place (below k) ++ (shape r (some k) ∷ []) ≡ map place (below (k + 1))
+      more = sym (ap (λ (n : ℕ). map place (below n)) (add-one k) ∙ ap (map place) (below_snoc k) ∙ map-append place (below k) (k ∷ []))
 
   -- with the one without a counted place, all of the relation
-  pub places_all : (k : ℕ) → k ≡ arity D r → Listing D ((ss ++ (shape_of r 255 ∷ [])) ++ map (λ p. shape r (some p)) (below k)) end list old
+  pub places_all : (k : ℕ) → k ≡ arity D r → Listing D ((ss ++ (shape r none ∷ [])) ++ map (λ p. shape r (some p)) (below k)) end list old
       → Listing D (ss ++ shapes_of r (arity D r)) end list old
   places_all k e L =
       subst (λ (l : List Shape). Listing D l end list old)
-      (append_assoc ss (shape_of r 255 ∷ []) (map (λ p. shape r (some p)) (below k)) ∙ ap (λ (n : ℕ). ss ++ shapes_of r n) e) L
+      (append_assoc ss (shape r none ∷ []) (map (λ p. shape r (some p)) (below k)) ∙ ap (λ (n : ℕ). ss ++ shapes_of r n) e) L
 
 -- ---- the relations
 
@@ -288,10 +245,10 @@ unfolding entries_of flat_map over
 listing_none D list = record { written = refl; bytes = refl }
 
 -- what is written of it
-pub made_is : {D : Domain} {n : ℕ} {list old : List ℕ} → Listing D (shapes D) n list old → take (n - 0) list ≡ list_bytes D
+pub made_is : {D : Domain} {n : ℕ} {list old : List ℕ} → Listing D (shapes D) n list old → take n list ≡ list_bytes D
 unfolding over
 made_is {D} {n} {list} {old} L =
-    ap₂ (λ (k : ℕ) (l : List ℕ). take k l) (sub-zero n) L.bytes
+    ap (take n) L.bytes
     ∙ take_at (entries_of D (shapes D)) (drop (length (entries_of D (shapes D))) old) n (sym L.written)
     ∙ list_is D
 
@@ -302,6 +259,3 @@ unfolding table_bytes
 bare_held H F wf = record { old = H.old; holds = record { filled = F; rows = H.rows }; formed = wf }
 
 -- what is handed over is the list
-pub list_delivered : {made bytes out after : List ℕ} {n k : ℕ} → made ≡ bytes → DeliveredAs made out n k after
-    → DeliveredAs bytes out n k after
-list_delivered {made} {bytes} {out} {after} {n} {k} e d = subst (λ (l : List ℕ). DeliveredAs l out n k after) e d

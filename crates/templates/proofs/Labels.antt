@@ -2,7 +2,7 @@
 use mathlib.Core.Path.{◌≡◌, refl, ap, ap₂, ◌∙◌}
 use mathlib.Core.Bool.{Bool, true, false, not, ◌&&◌, ◌||◌, false≢true}
 use mathlib.Core.Logic.{◌⊎◌, inl, inr}
-use mathlib.Core.Option.{Option, none, some}
+use Rattle.std.specs.Prelude.{Option, None as none, Some as some}
 use mathlib.Core.List.{List, [], ◌∷◌}
 use Prim.Native.Nat.{ℕ, zero, suc, ◌+◌, ◌≤◌, ◌<◌}
 use native.Mathlib.Omega.{arith}
@@ -17,6 +17,7 @@ use Rattle.literals.specs.declared.Label.TheVariants.{Key as keyed, Counted}
 use Rattle.literals.specs.Domain.{key, is_every, Atom, Literal, Action, Component, is_key, is_counted, key_below, each_key_once, labels_fit}
 use Rattle.literals.specs.Domain.{keys_bound, counted_cleared, keeps_keys}
 use Rattle.literals.specs.Decode.{keys_cleared}
+use Rattle.templates.specs.Held.{PlaceBelow}
 use Rattle.templates.specs.Templates.{keys_from, labels_from, labels_with}
 use Rattle.templates.specs.Claims.{same_mark, same_shape}
 
@@ -101,11 +102,6 @@ labels_under k (suc n) (suc p) m q h = and_i (lt-ltb k m (omega arith)) (labels_
 each_once_lem : (n : ℕ) (ls : List Label) → ((j : ℕ) → j < n → count_by (is_key (key j)) ls ≡ 1) → each_key_once n ls ≡ true
 each_once_lem zero ls h = refl
 each_once_lem (suc n) ls h = and_i (each_once_lem n ls (λ j l. h j (omega arith))) (eq-eqb _ 1 (h n (omega arith)))
-
--- a counted place, if there is one, is an argument's
-abbrev pub PlaceBelow : ℕ → Option ℕ → Type 0
-PlaceBelow n none = Unit {0}
-PlaceBelow n (some p) = p < n
 
 pub with_length : (n : ℕ) (o : Option ℕ) → length (labels_with n o) ≡ n
 with_length n none = keys_length 0 n

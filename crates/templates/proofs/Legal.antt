@@ -9,7 +9,7 @@ use lib.ListN.{length, length-map}
 use borrow.Author.Tests.{eqb-true, eqb-false, eq-eqb, ne_eqb, ltb-true, lt-ltb, lt-leb, le-ltb}
 use Rattle.records.specs.Lists.{In, all, any, pairwise}
 use Rattle.records.proofs.Lists.{and_l, and_r, and_i, not_false, all_of, all_in, any_out}
-use Rattle.literals.specs.declared.RecordFault.{RecordFault}
+use Rattle.literals.specs.Decode.{RecordStop}
 use Rattle.literals.specs.declared.Label.{Label}
 use Rattle.literals.specs.declared.Label.TheVariants.{Key as keyed, Counted}
 use Rattle.literals.specs.Domain.{Literal, Action, Component, variable_below, clears_once, keeps_keys, key_below, keys_of, labels_fit, Domain}
@@ -85,8 +85,8 @@ module _ (D : Domain) (c : Component) where
           let m = length-map c.labels label_number in omega arith
 
       -- labels that fit leave 27 to ask
-      cleared : (f : RecordFault) → f ≡ at_record 0 → (cleared_fault D.actions c f).number ≡ cond (keys_cleared D.actions c) 27 0
-      cleared f e = ap (λ (g : RecordFault). (cleared_fault D.actions c g).number) e ∙ go (keys_cleared D.actions c)
+      cleared : (f : RecordStop) → f ≡ at_record 0 → (cleared_fault D.actions c f).number ≡ cond (keys_cleared D.actions c) 27 0
+      cleared f e = ap (λ (g : RecordStop). (cleared_fault D.actions c g).number) e ∙ go (keys_cleared D.actions c)
         where
           go : (b : Bool) → (cond (true && b) (at_record 27) (at_record 0)).number ≡ cond b 27 0
           go true = refl

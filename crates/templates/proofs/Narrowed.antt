@@ -3,13 +3,13 @@ use mathlib.Core.Path.{◌≡◌, refl, sym, ap, ap₂, ◌∙◌}
 use mathlib.Core.Bool.{Bool, true, false, not, cond, ◌&&◌}
 use mathlib.Core.List.Memᴰ
 use mathlib.Core.List.{List, [], ◌∷◌, ◌++◌, map, flat_map, append-nil}
-use Prim.Native.Nat.{ℕ, zero, suc, ◌+◌, ◌-◌, ◌*◌, ◌≤◌}
+use Prim.Native.Nat.{ℕ, zero, suc, ◌+◌, ◌*◌, ◌≤◌}
 use native.Mathlib.Numerals.{add-one}
 use native.Mathlib.Omega.{arith}
 use lib.Dec.{eqb}
-use lib.ListN.{length, get_or, take, drop, length-append, length-drop}
+use lib.ListN.{length, take, drop, length-append, length-drop}
 use lib.Seq.{paste, take_at, take-suc, take_all, length-take-le}
-use borrow.Author.Tests.{eq-eqb, ne_eqb, eqb-true}
+use borrow.Author.Tests.{eqb-true}
 use Rattle.records.specs.Lists.{In, all, any, filter_by, keep_if, same_list, dedup}
 use Rattle.records.specs.Memory.{over}
 use Rattle.records.proofs.Lists.{and_l, off, clash, any_in, any_out, in_flat_map, not_false, filter_in, filter_few, filter_agree, filter_append, flat_map_append, pairwise_filter}
@@ -52,27 +52,6 @@ keeping_none rows r kept₀ = record { few = omega arith; count = refl; bytes = 
 
 row_length : (rows : List ℕ) (j : ℕ) → 8 * j + 8 ≤ length rows → length (row_in rows j) ≡ 8
 row_length rows j h = let l = length-drop (8 * j) rows in length-take-le 8 (drop (8 * j) rows) (omega arith)
-
--- one row, which has the relation or another
-module _ (rows : List ℕ) (r j : ℕ) (inside : 8 * j + 8 ≤ length rows) (kept₀ : List ℕ) (k : ℕ) where
-  pub row_put : get_or rows (8 * j + 1) 0 ≡ r → {next : List ℕ}
-      → next ≡ paste kept₀ (8 * k) (take (8 * j + 8 - 8 * j) (drop (8 * j) rows)) (length (take (8 * j + 8 - 8 * j) (drop (8 * j) rows)))
-      → (k + 1 ≡ cond (mentioned_at rows r j) (k + 1) k) × (next ≡ cond (mentioned_at rows r j) (paste kept₀ (8 * k) (row_in rows j) 8) kept₀)
-  row_put t e =
-      let z : 8 * j + 8 - 8 * j ≡ 8 = omega arith in (
-        sym (ap (λ (b : Bool). cond b (k + 1) k) (eq-eqb _ _ t)),
-        e
-            ∙ ap (λ (n : ℕ). paste kept₀ (8 * k) (take n (drop (8 * j) rows)) (length (take n (drop (8 * j) rows)))) z
-            ∙ ap (paste kept₀ (8 * k) (row_in rows j)) (row_length rows j inside)
-            ∙ sym (ap (λ (b : Bool). cond b (paste kept₀ (8 * k) (row_in rows j) 8) kept₀) (eq-eqb _ _ t)),
-      )
-
-  pub row_passed : (get_or rows (8 * j + 1) 0 ≡ r → ⊥)
-      → (k ≡ cond (mentioned_at rows r j) (k + 1) k) × (kept₀ ≡ cond (mentioned_at rows r j) (paste kept₀ (8 * k) (row_in rows j) 8) kept₀)
-  row_passed t = (
-    sym (ap (λ (b : Bool). cond b (k + 1) k) (ne_eqb _ _ t)),
-    sym (ap (λ (b : Bool). cond b (paste kept₀ (8 * k) (row_in rows j) 8) kept₀) (ne_eqb _ _ t)),
-  )
 
 module _ {rows : List ℕ} {r : ℕ} {kept₀ kept' : List ℕ} {k j : ℕ} (w : Keeping rows r kept₀ kept' k j) where
   pub keeping_length : 8 * k ≤ length kept₀ → length kept' ≡ length kept₀

@@ -2,7 +2,7 @@
 use mathlib.Core.Path.{◌≡◌, refl, sym, ap, ap₂, subst, ◌∙◌}
 use mathlib.Core.Bool.{Bool, true, false, cond}
 use mathlib.Core.Logic.{◌⊎◌, inl, inr}
-use mathlib.Core.Option.{Option, none, some}
+use Rattle.std.specs.Prelude.{Option, None as none, Some as some}
 use mathlib.Core.List.{List, [], ◌∷◌, ◌++◌, flat_map}
 use Prim.Native.Nat.{ℕ, zero, suc, ◌+◌, ◌*◌, ◌≤◌, ◌<◌}
 use native.Mathlib.Omega.{arith}
@@ -22,8 +22,7 @@ use Rattle.services.proofs.Answers.{served_short, served_done}
 use Rattle.templates.specs.Templates.{Shape, shape, component_at, single, listed, place_byte, verdict_of, entry, list_bytes, list_file}
 use Rattle.templates.specs.Templates.{list_after}
 use Rattle.templates.specs.Claims.{Limited, shape_in, EntriesSafe, NothingMissing, same_shape}
-use Rattle.templates.specs.Held.{place_of_byte}
-use Rattle.templates.proofs.Labels.{PlaceBelow}
+use Rattle.templates.specs.Held.{PlaceBelow, place_of_byte}
 use Rattle.templates.proofs.Legal.{legal_is_read}
 use Rattle.templates.proofs.Listed.{listed_place}
 use Rattle.templates.proofs.Written.{count_of, verdict_listed, entry_safe}

@@ -1,6 +1,6 @@
 -- What is claimed of the list of one-relation templates, each proved in proofs/. Assumes nothing.
 use Rattle.std.specs.Prelude.{◌≡◌, Bool, true, false, ◌&&◌, ◌||◌, not, cond, ◌⊎◌, ◌↔◌, List, map, ℕ, ◌+◌, ◌*◌, ◌≤◌, ◌<◌, eqb, ltb, length}
-use Rattle.std.proofs.Math.Option.{Option, none, some}
+use Rattle.std.specs.Prelude.{Option, None as none, Some as some}
 use Rattle.records.specs.Lists.{In, filter_by, all, pairwise, same_list, distinct}
 use Rattle.records.specs.Memory.{over}
 use Rattle.literals.specs.declared.Label.{Label}

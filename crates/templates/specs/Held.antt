@@ -1,32 +1,30 @@
 -- How the code lists the templates: the payload of a component by its place byte, and where listing stands. Assumes nothing.
-use Rattle.std.specs.Prelude.{◌≡◌, Bool, true, cond, ◌⊎◌, ℕ, zero, suc, ◌+◌, ◌-◌, ◌*◌, ◌<◌, eqb, ltb, length, get_or, take}
+use Rattle.std.specs.Prelude.{◌≡◌, Bool, true, cond, ℕ, zero, suc, ◌+◌, ◌-◌, ◌*◌, ◌<◌, eqb, ltb, length, get_or, take}
 use mathlib.Core.List.{List, [], ◌∷◌, ◌++◌, map, flat_map}
-use Rattle.std.proofs.Math.Option.{Option, none, some}
+use Rattle.std.specs.Prelude.{Option, None as none, Some as some, ⊤}
 use Rattle.records.specs.Lists.{filter_by, below}
 use Rattle.records.specs.Memory.{over}
-use Rattle.literals.specs.Domain.{Component, Domain, arity, bare}
+use Rattle.literals.specs.Domain.{Component, Domain, bare}
 use Rattle.literals.specs.Decode.{max_arguments}
 use Rattle.literals.specs.Held.{row_in}
 use Rattle.reading.specs.Held.{HeldOver}
 use Rattle.verdict.specs.Claims.{well_formed}
-use Rattle.templates.specs.Templates.{Shape, shape, shapes_from, component_at, legal_alone, entry}
+use Rattle.templates.specs.Templates.{Shape, shapes_from, component_at, legal_alone, entry}
 
 -- ---- payloads
 
--- the label at a place, as a byte, where the counted place is `counted` (FF: none)
-abbrev pub label_at : ℕ → ℕ → ℕ
-label_at counted i = cond (ltb i counted) i (cond (eqb i counted) 255 (i - 1))
+-- the label at a place, as a byte: keys from left to right, around the counted place if there is one
+abbrev pub label_at : Option ℕ → ℕ → ℕ
+label_at none i = i
+label_at (some p) i = cond (ltb i p) i (cond (eqb i p) 255 (i - 1))
 
 -- relation, and the labels of as many places as a relation may have
-abbrev pub payload_of : ℕ → ℕ → List ℕ
+abbrev pub payload_of : ℕ → Option ℕ → List ℕ
 payload_of r counted = r ∷ map (label_at counted) (below max_arguments)
 
--- the shape of a relation and a place byte
+-- the counted place that a byte says
 abbrev pub place_of_byte : ℕ → Option ℕ
 place_of_byte b = cond (eqb b 255) none (some b)
-
-abbrev pub shape_of : ℕ → ℕ → Shape
-shape_of r b = shape r (place_of_byte b)
 
 -- ---- one component
 
@@ -61,9 +59,10 @@ pub record Listing (D : Domain) (ss : List Shape) (at : ℕ) (list old : List �
   pub written : at ≡ length (entries_of D ss)
   pub bytes : list ≡ over (entries_of D ss) old
 
--- a place that the relation has, or FF
-abbrev pub PlaceFits : Domain → ℕ → ℕ → Type 0
-PlaceFits D r b = (b ≡ 255) ⊎ (b < arity D r)
+-- a counted place, if there is one, is an argument's, of n
+abbrev pub PlaceBelow : ℕ → Option ℕ → Type 0
+PlaceBelow n none = ⊤
+PlaceBelow n (some p) = p < n
 
 -- of the first n relations
 abbrev pub shapes_up_to : Domain → ℕ → List Shape

@@ -1,7 +1,7 @@
 -- "Every one-relation template, listed": the templates of a single component, in order, each with its verdict. Assumes nothing.
 use Rattle.std.specs.Prelude.{Bool, ◌&&◌, ℕ, zero, suc, eqb}
 use mathlib.Core.List.{List, [], ◌∷◌, ◌++◌, map, flat_map}
-use Rattle.std.proofs.Math.Option.{Option, none, some}
+use Rattle.std.specs.Prelude.{Option, None as none, Some as some}
 use Rattle.records.specs.Lists.{filter_by, all, below}
 use Rattle.literals.specs.declared.Label.{Label}
 use Rattle.literals.specs.declared.Label.TheVariants.{Key as keyed, Counted}

@@ -5,7 +5,7 @@ ghost use Rattle.std.proofs.Math.Seq.{paste};
 ghost use Rattle.records.specs.Lists.{any, below};
 ghost use Rattle.literals.specs.Domain.{Domain, Action, action};
 ghost use Rattle.literals.specs.Decode.{max_actions, max_literals};
-ghost use Rattle.literals.specs.Held.{PlacesOf, Held, row_in};
+ghost use Rattle.literals.specs.Held.{Held, row_in};
 ghost use Rattle.classes.specs.Held.{ActionOf};
 ghost use Rattle.verdict.specs.Judged.{decided};
 ghost use Rattle.verdict.specs.Claims.{well_formed};
@@ -13,10 +13,9 @@ ghost use Rattle.verdict.specs.Summaries.{summary_of};
 ghost use Rattle.templates.specs.Held.{OnlyRelation, mentioned_at, rows_of_relation};
 
 use literals::head::{Head, actions_in, is_lasting, rows_of};
-use literals::keys::{KEY_PLACES, KeyPlaces, put_places};
+use literals::key_places::Places;
 use literals::limits::MAX_LITERALS;
 use naming::name_action;
-use records::bytes::put_bytes;
 use verdict::{Notes, Summary};
 
 // Whether a literal of these rows has the relation.
@@ -24,12 +23,7 @@ fn mentions(rows: &[u8], n: usize, relation: u8) -> bool
     requires { length rows.now ≡ 8 * n }
     ensures { result ≡ any (mentioned_at rows.now relation) (below n) }
 {
-    for j in 0..n {
-        if rows[8 * j + 1] == relation {
-            return true;
-        }
-    }
-    false
+    (0..n).any(|j| rows[8 * j + 1] == relation)
 }
 
 // Puts the row `j` behind the `k` rows that are kept, if it has the relation: how many are kept then.
@@ -40,13 +34,11 @@ fn keep_row(rows: &[u8], j: usize, relation: u8, kept: &mut [u8], k: usize) -> u
     ensures rows { kept.new ≡ cond (mentioned_at rows.now relation j)
         (paste kept.old (8 * k) (row_in rows.now j) 8) kept.old }
 {
-    if rows[8 * j + 1] == relation {
-        let from = 8 * j;
-        let to = from + 8;
-        put_bytes(kept, 8 * k, &rows[from..to]);
-        return k + 1;
+    if rows[8 * j + 1] != relation {
+        return k;
     }
-    k
+    kept[8 * k..8 * k + 8].copy_from_slice(&rows[8 * j..8 * j + 8]);
+    k + 1
 }
 
 // Puts the rows that have the relation one behind the other: how many they are.
@@ -64,32 +56,22 @@ fn rows_of_relation(rows: &[u8], n: usize, relation: u8, kept: &mut [u8]) -> usi
 }
 
 // The summary of an action, of the rows of its literals.
-fn summarize(
-    head: &Head,
-    places: &KeyPlaces,
-    rows: &[u8],
-    n: usize,
-    lasting: bool,
-    relation: u8,
-) -> Summary
+fn summarize(places: &Places, rows: &[u8], n: usize, lasting: bool, relation: u8) -> Summary
     requires rowed { length rows.now ≡ 8 * n }
     requires few { n ≤ max_literals }
-    requires places { PlacesOf head.now places.now }
-    ensures { (D : Domain) (a : Action) → ActionOf D a head.now rows.now → a.lasting ≡ lasting
+    ensures { (D : Domain) (a : Action) → ActionOf D a places.now.head.now rows.now → a.lasting ≡ lasting
         → OnlyRelation D relation → result ≡ summary_of D a }
 {
     if mentions(rows, n, relation) {
         let mut kept = [0u8; 8 * MAX_LITERALS];
         let count = rows_of_relation(rows, n, relation, &mut kept);
-        let end = 8 * count;
         let mut numbers = [0u8; MAX_LITERALS];
         let mut words = [0u64; MAX_LITERALS];
         let mut names = [0u8; 2 * MAX_LITERALS];
         let named = name_action(
-            head,
             places,
-            &kept[0..end],
-            &mut numbers[0..count],
+            &kept[..8 * count],
+            &mut numbers[..count],
             &mut words,
             0,
             lasting,
@@ -101,23 +83,21 @@ fn summarize(
 }
 
 // That of the action i.
-fn summary_of(head: &Head, table: &[u8], places: &KeyPlaces, i: usize, relation: u8) -> Summary
+fn summary_of(places: &Places, table: &[u8], i: usize, relation: u8) -> Summary
     requires action { i < max_actions }
-    requires places { PlacesOf head.now places.now }
-    ensures { (D : Domain) → Held D head.now table.now → well_formed D ≡ true → i < length D.actions
+    ensures { (D : Domain) → Held D places.now.head.now table.now → well_formed D ≡ true → i < length D.actions
         → OnlyRelation D relation → result ≡ summary_of D (action D i) }
 {
-    let span = rows_of(head, table, i);
+    let span = rows_of(places.head, table, i);
     let first = span.from;
     let last = span.to;
     let from = 8 * first;
     let to = 8 * last;
     summarize(
-        head,
         places,
         &table[from..to],
         last - first,
-        is_lasting(head, i),
+        is_lasting(places.head, i),
         relation,
     )
 }
@@ -128,11 +108,10 @@ pub fn decide_alone(head: &Head, table: &[u8], relation: u8) -> u64
     ensures number { (D : Domain) → Held D head.now table.now → well_formed D ≡ true
         → OnlyRelation D relation → result ≡ (decided D).number }
 {
-    let mut places = [0u8; KEY_PLACES];
-    put_places(head, &mut places);
+    let places = Places::of(head);
     let mut notes = Notes::new();
     for i in 0..actions_in(head) {
-        let summary = summary_of(head, table, &places, i, relation);
+        let summary = summary_of(&places, table, i, relation);
         notes = notes.with(i as u8, summary);
     }
     let decided = notes.decide();

@@ -3,8 +3,8 @@ ghost use Rattle.std.specs.Prelude.{◌≡◌, List, [], ◌∷◌, ◌++◌, �
 ghost use Rattle.literals.specs.Domain.{Domain, arity};
 ghost use Rattle.literals.specs.Decode.{max_relations, max_arguments};
 ghost use Rattle.literals.specs.Held.{head_bytes};
-ghost use Rattle.templates.specs.Templates.{Shape, shapes_of, shapes};
-ghost use Rattle.templates.specs.Held.{shape_of, BareHeld, PlaceFits, Listing};
+ghost use Rattle.templates.specs.Templates.{Shape, shape, shapes_of, shapes};
+ghost use Rattle.templates.specs.Held.{BareHeld, PlaceBelow, Listing};
 
 use super::deciding::decide_alone;
 use super::shapes::payload_of;
@@ -17,7 +17,7 @@ fn put_entry(
     head: &Head,
     table: &[u8],
     relation: u8,
-    counted: u8,
+    counted: Option<u8>,
     list: &mut [u8],
     at: usize,
 ) -> usize
@@ -25,19 +25,18 @@ fn put_entry(
     requires room { at + 3 ≤ length list.old }
     ensures few { result ≤ at + 3 }
     ensures entry { (D : Domain) (ss : List Shape) (old : List ℕ) → BareHeld D head.now table.now
-        → relation < length D.arities → PlaceFits D relation counted → Listing D ss at list.old old
-        → Listing D (ss ++ (shape_of relation counted ∷ [])) result list.new old }
+        → relation < length D.arities → PlaceBelow (arity D relation) counted → Listing D ss at list.old old
+        → Listing D (ss ++ (shape relation counted ∷ [])) result list.new old }
 {
     let payload = payload_of(relation, counted);
-    let size = arity_of(head, relation) as usize + 1;
+    let size = usize::from(arity_of(head, relation)) + 1;
     let mut alone = *head;
-    let fault = take_component(&mut alone, table, &payload[0..size]);
-    if fault.number != 0 {
+    if take_component(&mut alone, table, &payload[..size]).is_err() {
         return at;
     }
-    list[at] = relation;
-    list[at + 1] = counted;
-    list[at + 2] = decide_alone(&alone, table, relation) as u8;
+    let place = counted.unwrap_or(255);
+    let verdict = decide_alone(&alone, table, relation) as u8;
+    list[at..at + 3].copy_from_slice(&[relation, place, verdict]);
     at + 3
 }
 
@@ -50,9 +49,9 @@ fn put_relation(head: &Head, table: &[u8], relation: u8, list: &mut [u8], at: us
         → relation < length D.arities → Listing D ss at list.old old
         → Listing D (ss ++ shapes_of relation (arity D relation)) result list.new old }
 {
-    let mut end = put_entry(head, table, relation, 255, list, at);
+    let mut end = put_entry(head, table, relation, None, list, at);
     for place in 0..arity_of(head, relation) {
-        end = put_entry(head, table, relation, place, list, end);
+        end = put_entry(head, table, relation, Some(place), list, end);
     }
     end
 }

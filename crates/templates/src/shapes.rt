@@ -4,21 +4,20 @@ ghost use Rattle.templates.specs.Held.{label_at, payload_of};
 
 use literals::limits::MAX_ARGUMENTS;
 
-// The label at a place, where `counted` is the counted place, or FF for none.
-fn label_at(counted: u8, i: u8) -> u8
+// The label at a place: FF at the counted place, if there is one, and behind it the keys are one lower.
+fn label_at(counted: Option<u8>, i: u8) -> u8
     ensures { result ≡ label_at counted i }
 {
-    if i < counted {
-        return i;
+    match counted {
+        Some(place) if i == place => 255,
+        Some(place) if place < i => i - 1,
+        _ => i,
     }
-    if i == counted {
-        return 255;
-    }
-    i - 1
 }
 
-// The relation, and the labels of as many places as a relation may have.
-pub fn payload_of(relation: u8, counted: u8) -> [u8; 1 + MAX_ARGUMENTS]
+// The relation, and the labels of as many places as a relation may have. (An array from a function of the index would ask of each whether
+// it is the relation's.)
+pub fn payload_of(relation: u8, counted: Option<u8>) -> [u8; 1 + MAX_ARGUMENTS]
     ensures { result ≡ payload_of relation counted }
 {
     [

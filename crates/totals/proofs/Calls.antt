@@ -13,11 +13,13 @@ use Rattle.records.proofs.Lists.{bool_cases}
 use Rattle.records.specs.Lists.{numbers_from}
 use Rattle.classes.specs.Classes.{name_number}
 use Rattle.verdict.specs.Decision.{Row}
-use Rattle.verdict.specs.Judged.{Answer, decided_file}
-use Rattle.totals.specs.declared.Opening.TheVariants.{Whole, Cut}
+use Rattle.verdict.specs.Judged.{Answer, answer_at, decided_file}
+use Rattle.std.specs.Prelude.{Ok, Err, ⊤}
+use Rattle.totals.specs.declared.Uncounted.{Uncounted}
+use Rattle.totals.specs.declared.Uncounted.TheVariants.{Cut}
 use Rattle.totals.specs.Totals.{Opened, cut_at, files, opened, all_rows, files_with, moments_with, totals, total_bytes, totalled, totals_after}
 use Rattle.totals.specs.Claims.{sum, total_in, CountsFiles, AddsUp}
-use Rattle.totals.specs.Held.{opening_of, files_of, files_in}
+use Rattle.totals.specs.Held.{opening_of, uncounted, files_of, files_in}
 use Rattle.verdict.proofs.Known.{file_range, name_range}
 use Rattle.totals.proofs.Sums.{sum_counts}
 use Rattle.totals.proofs.Counts.{total_of_number, total_of_name}
@@ -26,47 +28,39 @@ use Rattle.totals.proofs.Answers.{totalled_cut, totalled_short, totalled_done}
 
 module _ (b out : List ℕ) where
   -- what opening answered, read back
-  pub opened_cut : (at : ℕ) → Cut at ≡ opening_of (opened b) → opened b ≡ cut_at at
-  opened_cut at e = go (opened b) e
-    where
-      go : (o : Opened) → Cut at ≡ opening_of o → o ≡ cut_at at
-      go (cut_at n) q = ap cut_at (inner q)
-        where
-          inner : Cut at ≡ Cut n → n ≡ at
-          inner z = cc
-      go (files fs) q = absurd (let z : ◌≡◌ {A = ℕ} 0 1 = cc in omega arith)
-
-  pub opened_whole : Whole ≡ opening_of (opened b) → opened b ≡ files (files_in b)
+  pub opened_whole : {u : ⊤} → Ok u ≡ opening_of (opened b) → opened b ≡ files (files_in b)
   unfolding files_in
-  opened_whole e = go (opened b) e
+  opened_whole {u} e = go (opened b) e
     where
-      go : (o : Opened) → Whole ≡ opening_of o → o ≡ files (files_of o)
+      go : (o : Opened) → Ok u ≡ opening_of o → o ≡ files (files_of o)
       go (cut_at n) q = absurd (let z : ◌≡◌ {A = ℕ} 0 1 = cc in omega arith)
       go (files fs) q = refl
 
-  pub cut_is : (at : ℕ) → Cut at ≡ opening_of (opened b) → (33 ≡ (totalled b out).number) × ((at ≡ (totalled b out).first) × (out ≡ totals_after b out))
-  cut_is at e =
-      let t = totalled_cut b out at (opened_cut at e) in
-      (sym (ap (λ (a : Answer). a.number) t.0), (sym (ap (λ (a : Answer). a.first) t.0), sym t.1))
+  pub cut_is : {e : Uncounted} → Err e ≡ opening_of (opened b) → (uncounted e ≡ totalled b out) × (out ≡ totals_after b out)
+  cut_is {e} q = go (opened b) refl q
+    where
+      go : (o : Opened) → opened b ≡ o → Err e ≡ opening_of o → (uncounted e ≡ totalled b out) × (out ≡ totals_after b out)
+      go (cut_at n) h q =
+          let t = totalled_cut b out n h in
+          let i : e ≡ Cut n = cc in (ap uncounted i ∙ sym t.0, sym t.1)
+      go (files fs) h q = absurd (let z : ◌≡◌ {A = ℕ} 0 1 = cc in omega arith)
 
   module _ (w : opened b ≡ files (files_in b)) where
-    pub short_is : length out < 568 → (30 ≡ (totalled b out).number) × ((0 ≡ (totalled b out).first) × (out ≡ totals_after b out))
-    short_is h =
-        let t = totalled_short b out (files_in b) w h in
-        (sym (ap (λ (a : Answer). a.number) t.0), (sym (ap (λ (a : Answer). a.first) t.0), sym t.1))
+    pub short_is : length out < 568 → (answer_at 30 0 ≡ totalled b out) × (out ≡ totals_after b out)
+    short_is h = let t = totalled_short b out (files_in b) w h in (sym t.0, sym t.1)
 
     pub done_is : 568 ≤ length out → {counts after : List ℕ} → counts ≡ totals (files_in b) → after ≡ over (total_bytes counts) out
-        → (0 ≡ (totalled b out).number) × ((568 ≡ (totalled b out).first) × (after ≡ totals_after b out))
+        → (answer_at 0 568 ≡ totalled b out) × (after ≡ totals_after b out)
     done_is h c e =
         let t = totalled_done b out (files_in b) w h in
-        (sym (ap (λ (a : Answer). a.number) t.0), (sym (ap (λ (a : Answer). a.first) t.0), e ∙ ap (λ (l : List ℕ). over (total_bytes l) out) c ∙ sym t.1))
+        (sym t.0, e ∙ ap (λ (l : List ℕ). over (total_bytes l) out) c ∙ sym t.1)
 
 -- ---- what the answer means
 
 -- number by number
 same_numbers : (f g : ℕ → ℕ) (k m : ℕ) → ((n : ℕ) → k ≤ n → n < k + m → f n ≡ g n) → map f (numbers_from k m) ≡ map g (numbers_from k m)
 same_numbers f g k zero h = refl
-same_numbers f g k (suc m) h = ap₂ ◌∷◌ (h k (omega arith) (omega arith)) (same_numbers f g (suc k) m (λ n l u. h n (omega arith) (omega arith)))
+same_numbers f g k (suc m) h = ap₂ ◌∷◌ (h k (omega arith) (omega arith)) (same_numbers f g (k + 1) m (λ n l u. h n (omega arith) (omega arith)))
 
 module _ (b out : List ℕ) (small : length b < 18446744073709551616) {number : ℕ} {after : List ℕ} (q : number ≡ (totalled b out).number) (s : after ≡ totals_after b out) where
   module _ (fs : List (List ℕ)) (e : opened b ≡ files fs) (z : number ≡ 0) where

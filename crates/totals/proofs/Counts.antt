@@ -8,6 +8,7 @@ use lib.Dec.{eqb}
 use lib.ListN.{length, get_or, get_or-append}
 use lib.Seq.{get_or-append-add, take_at, drop_at}
 use borrow.Author.Tests.{eqb-true}
+use Rattle.std.proofs.lemmas.List.FromFn.{length-map-range_with_len, get_or-map-range_with_len}
 use Rattle.records.specs.Lists.{count_by, numbers_from}
 use Rattle.records.proofs.Lists.{count_append, count_none, flat_map_append}
 use Rattle.classes.specs.Classes.{name_number}
@@ -16,7 +17,7 @@ use Rattle.verdict.specs.Judged.{decided_file}
 use Rattle.verdict.proofs.Known.{Known, known_file, file_range, name_range}
 use Rattle.totals.specs.Totals.{rows_of_file, all_rows, files_with, moments_with, totals}
 use Rattle.totals.specs.Claims.{sum, TotalOfNumber, TotalOfName, NumbersAddUp, NamesAddUp, RoomNeverCounted, TotalsJoined}
-use Rattle.totals.proofs.Sums.{numbers_at, numbers_length, sum_counts, added_append, added_map}
+use Rattle.totals.proofs.Sums.{sum_counts, added_append, added_map}
 
 abbrev of_numbers : List (List ℕ) → List ℕ
 of_numbers fs = map (λ n. files_with n fs) (numbers_from 0 64)
@@ -26,21 +27,20 @@ of_names fs = map (λ k. moments_with k fs) (numbers_from 1 7)
 
 -- 64 of them
 number_count : (fs : List (List ℕ)) → length (of_numbers fs) ≡ 64
-number_count fs = numbers_length (λ n. files_with n fs) 0 64
+number_count fs = length-map-range_with_len (λ n. files_with n fs) 0 64
 
 pub total_of_number : TotalOfNumber
 unfolding totals
 total_of_number fs n h =
     let l = number_count fs in
-    get_or-append (of_numbers fs) (of_names fs) 0 n (omega arith) ∙ numbers_at (λ n. files_with n fs) 0 64 n h ∙ ap (λ n. files_with n fs) (let z : 0 + n ≡ n = omega arith in z)
+    get_or-append (of_numbers fs) (of_names fs) 0 n (omega arith) ∙ get_or-map-range_with_len (λ n. files_with n fs) 0 64 n n 0 h (omega arith)
 
 pub total_of_name : TotalOfName
 unfolding totals
 total_of_name fs k h =
     ap (λ m. get_or (of_numbers fs ++ of_names fs) (m + k) 0) (sym (number_count fs))
     ∙ get_or-append-add (of_numbers fs) (of_names fs) k 0
-    ∙ numbers_at (λ k. moments_with k fs) 1 7 k h
-    ∙ ap (λ k. moments_with k fs) (let z : 1 + k ≡ suc k = omega arith in z)
+    ∙ get_or-map-range_with_len (λ k. moments_with k fs) 1 7 k (suc k) 0 h (omega arith)
 
 pub numbers_add_up : NumbersAddUp
 unfolding totals

@@ -3,11 +3,13 @@ use mathlib.Core.Path.{◌≡◌, refl, sym, ap, ap₂, ◌∙◌, subst}
 use mathlib.Core.Bool.{true, false}
 use mathlib.Core.Logic.{◌⊎◌, inl, inr}
 use mathlib.Core.List.Memᴰ
-use mathlib.Core.List.{List, [], ◌∷◌, map}
-use Prim.Native.Nat.{ℕ, ◌+◌, ◌-◌, ◌*◌, ◌≤◌, ◌<◌}
+use mathlib.Core.List.{List, [], ◌∷◌, ◌++◌, map}
+use Prim.Native.Nat.{ℕ, ◌+◌, ◌*◌, ◌≤◌, ◌<◌}
 use native.Mathlib.Omega.{arith}
-use lib.ListN.{length, take, drop, replicate, length-map, length-drop}
-use lib.Seq.{length-take-le, drop-drop}
+use lib.ListN.{length, take, drop, replicate, length-map, length-replicate}
+use lib.Seq.{length-take-le}
+use lib.Dec.{ltb}
+use borrow.Author.Tests.{ltb-true, ltb-false}
 use Rattle.records.specs.Lists.{In}
 use Rattle.records.specs.Memory.{over}
 use Rattle.records.proofs.Lists.{bool_cases}
@@ -16,14 +18,13 @@ use Rattle.verdict.specs.declared.Judgement.{Judgement}
 use Rattle.verdict.specs.Decision.{Row}
 use Rattle.verdict.specs.Judged.{row_bytes, Answer, decided_file, judged, report_after}
 use Rattle.verdict.specs.Held.{judgement_of}
-use Rattle.totals.specs.Totals.{long, whole_file, first_file, cut_at, files, opened, rows_of_file, name_mark, totals}
+use Rattle.totals.specs.Totals.{whole_file, first_file, behind_file, cut_at, files, opened, rows_of_file, name_mark, totals}
 use Rattle.totals.specs.Held.{files_of, files_in, one_more, one_more_each, marks_of, names_in, Room}
 use Rattle.verdict.proofs.Known.{file_range, name_range}
 use Rattle.totals.proofs.Enough.{judged_enough}
 use Rattle.totals.proofs.Bounds.{rows_few, rows_most, witness_most}
-use Rattle.totals.proofs.Answers.{totals_length}
 use Rattle.totals.proofs.Reported.{names_written, cleared_again}
-use Rattle.totals.proofs.Loops.{Passed, pass_none, none_passed, file_within, pass_file, pass_passed, box_cut, box_end}
+use Rattle.totals.proofs.Loops.{Left, left_all, all_passed, left_length, left_cut, left_end, left_more, more_passed, first_length, behind_length}
 use Rattle.totals.proofs.Tallied.{tally_file, room_box, room_less, room_more}
 
 -- ---- a file, judged with a clear report
@@ -65,6 +66,14 @@ module _ (f report wit : List ℕ) (h : 32768 ≤ length report) (g : 520 ≤ le
       pub cleared : over (replicate end 0) after ≡ replicate (length report) 0
       cleared = ap (over (replicate end 0)) written ∙ cleared_again (rows_of_file f) (length report) end (let l = names_length in omega arith) end_within
 
+      -- as a fill of the first bytes leaves the report
+      pub filled : length after ≡ length report → {part : List ℕ} → part ≡ replicate (length (take end after)) 0 → part ++ drop end after ≡ replicate (length report) 0
+      unfolding over
+      filled s {part} f =
+          ap (λ (p : List ℕ). p ++ drop end after) (f ∙ ap (λ (k : ℕ). replicate k 0) (length-take-le end after (let h = end_within in omega arith)))
+          ∙ ap (λ (k : ℕ). replicate end 0 ++ drop k after) (sym (length-replicate end 0))
+          ∙ cleared
+
     pub names_room : {q : Judgement} → q ≡ judgement_of (judged f report wit) → (counts : List ℕ) {counts₁ : List ℕ} → length counts ≡ 71 → counts₁ ≡ one_more counts q.number
         → Room counts (1 + length f) → Room counts₁ (length (names_in after))
     names_room {q} a counts {counts₁} s i R =
@@ -85,72 +94,54 @@ module _ (f report wit : List ℕ) (h : 32768 ≤ length report) (g : 520 ≤ le
 
 -- ---- the files of a whole box
 
--- the files before an offset are counted, and the report is clear
-pub record Walked (b report₀ wit₀ : List ℕ) (report wit counts : List ℕ) (at : ℕ) : Type 0 where
-  pub place : Passed b at
-  pub counted : counts ≡ totals place.passed
+-- the files before what is left are counted, and the report is clear
+pub record Walked (b report₀ wit₀ rest report wit counts : List ℕ) : Type 0 where
+  pub place : Left b rest
+  pub counted : counts ≡ totals place.place.passed
   pub clear : report ≡ replicate (length report) 0
   pub rows : length report ≡ length report₀
   pub facts : length wit ≡ length wit₀
 
-module _ {b report₀ wit₀ report wit counts : List ℕ} {at : ℕ} (whole : opened b ≡ files (files_in b)) (W : Walked b report₀ wit₀ report wit counts at) where
-  pub walked_sized : length counts ≡ 71
-  walked_sized = ap length W.counted ∙ totals_length W.place.passed
-
-  pub walked_end : length b ≤ at → counts ≡ totals (files_in b)
+module _ {b report₀ wit₀ rest report wit counts : List ℕ} (W : Walked b report₀ wit₀ rest report wit counts) where
+  -- no file is in front
+  pub walked_end : opened b ≡ files (files_in b) → whole_file rest ≡ false → counts ≡ totals (files_in b)
   unfolding files_in
-  walked_end l = W.counted ∙ ap totals (sym (ap files_of (box_end b at W.place.passed W.place.within W.place.whole l)))
+  walked_end whole w = W.counted ∙ ap totals (sym (ap files_of (left_end W.place none)))
+    where
+      apart : {fs : List (List ℕ)} {n : ℕ} → files fs ≡ cut_at n → ⊥
+      apart e = let y : ◌≡◌ {A = ℕ} 0 1 = cc in omega arith
 
-  module _ (l : at < length b) where
-    pub stands : whole_file (drop at b) ≡ true
-    stands = go (bool_cases (whole_file (drop at b)))
-      where
-        apart : {fs : List (List ℕ)} {n : ℕ} → files fs ≡ cut_at n → ⊥
-        apart e = let y : ◌≡◌ {A = ℕ} 0 1 = cc in omega arith
+      none : length rest ≡ 0
+      none = go (bool_cases (ltb 0 (length rest)))
+        where
+          go : (ltb 0 (length rest) ≡ true) ⊎ (ltb 0 (length rest) ≡ false) → length rest ≡ 0
+          go (inl t) = absurd (apart (sym whole ∙ left_cut W.place (ltb-true 0 (length rest) t) w))
+          go (inr f) = let l = ltb-false 0 (length rest) f in omega arith
 
-        go : (whole_file (drop at b) ≡ true) ⊎ (whole_file (drop at b) ≡ false) → whole_file (drop at b) ≡ true
-        go (inl t) = t
-        go (inr n) = absurd (apart (sym whole ∙ box_cut b at W.place.passed W.place.within W.place.whole l n))
+  module _ (w : whole_file rest ≡ true) {file : List ℕ} (f : file ≡ first_file rest) where
+    pub file_room : length b < 18446744073709551616 → Room counts (1 + length file)
+    file_room fits =
+        let l = ap length f ∙ first_length rest w in
+        let e = behind_length rest w in
+        let p = left_length W.place in
+        let t = length-take-le W.place.at b W.place.place.within in
+        subst (λ (c : List ℕ). Room c (1 + length file)) (sym W.counted)
+        (room_box (take W.place.at b) W.place.place.passed (1 + length file) W.place.place.whole (omega arith))
 
-    pub file_fits : at + 4 + long (drop at b) ≤ length b
-    file_fits = file_within W.place stands
+    pub walked_more : {behind report₁ wit₁ counts₁ : List ℕ} → behind ≡ behind_file rest → counts₁ ≡ one_more_each counts (marks_of file)
+        → report₁ ≡ replicate (length report) 0 → length report₁ ≡ length report → length wit₁ ≡ length wit
+        → Walked b report₀ wit₀ behind report₁ wit₁ counts₁
+    walked_more e c q m n =
+        record {
+          place = left_more W.place w e;
+          counted = c ∙ ap₂ (λ (t p : List ℕ). one_more_each t (marks_of p)) W.counted f ∙ tally_file W.place.place.passed (first_file rest)
+              ∙ sym (ap totals (more_passed W.place w e));
+          clear = q ∙ ap (λ (k : ℕ). replicate k 0) (sym m);
+          rows = m ∙ W.rows;
+          facts = n ∙ W.facts;
+        }
 
-    module _ (size : ℕ) (s : size ≡ long (drop at b)) where
-      -- the part of the box that is handed on
-      pub part_is : take (at + 4 + size - (at + 4)) (drop (at + 4) b) ≡ first_file (drop at b)
-      unfolding first_file
-      part_is =
-          ap₂ (λ (n : ℕ) (l : List ℕ). take n l) (let y : at + 4 + size - (at + 4) ≡ long (drop at b) = omega arith in y)
-          (sym (drop-drop 4 at b))
-
-      part_length : length (take (at + 4 + size - (at + 4)) (drop (at + 4) b)) ≡ size
-      part_length =
-          let d = length-drop (at + 4) b in
-          let w = file_fits in
-          length-take-le (at + 4 + size - (at + 4)) (drop (at + 4) b) (omega arith) ∙ (let y : at + 4 + size - (at + 4) ≡ size = omega arith in y)
-
-      pub file_room : length b < 18446744073709551616 → Room counts (1 + length (take (at + 4 + size - (at + 4)) (drop (at + 4) b)))
-      file_room fits n =
-          let w = file_fits in
-          let p = part_length in
-          let t = length-take-le at b W.place.within in
-          let r = room_box (take at b) W.place.passed (1 + length (take (at + 4 + size - (at + 4)) (drop (at + 4) b))) W.place.whole (omega arith) n in
-          subst (λ (c : List ℕ). Room c (1 + length (take (at + 4 + size - (at + 4)) (drop (at + 4) b)))) (sym W.counted)
-          (room_box (take at b) W.place.passed (1 + length (take (at + 4 + size - (at + 4)) (drop (at + 4) b))) W.place.whole (omega arith)) n
-
-      pub walked_more : {report₁ wit₁ counts₁ : List ℕ} → counts₁ ≡ one_more_each counts (marks_of (take (at + 4 + size - (at + 4)) (drop (at + 4) b)))
-          → report₁ ≡ replicate (length report) 0 → length report₁ ≡ length report → length wit₁ ≡ length wit
-          → Walked b report₀ wit₀ report₁ wit₁ counts₁ (at + 4 + size)
-      walked_more c q m n =
-          record {
-            place = pass_file W.place (at + 4 + size) stands (ap (λ (k : ℕ). at + 4 + k) s);
-            counted = c ∙ ap₂ (λ (t p : List ℕ). one_more_each t (marks_of p)) W.counted part_is ∙ tally_file W.place.passed (first_file (drop at b))
-                ∙ sym (ap totals (pass_passed W.place (at + 4 + size) stands (ap (λ (k : ℕ). at + 4 + k) s)));
-            clear = q ∙ ap (λ (k : ℕ). replicate k 0) (sym m);
-            rows = m ∙ W.rows;
-            facts = n ∙ W.facts;
-          }
-
-pub walked_none : (b report wit counts : List ℕ) → counts ≡ replicate 71 0 → report ≡ replicate (length report) 0 → Walked b report wit report wit counts 0
+pub walked_none : (b report wit counts : List ℕ) → counts ≡ replicate 71 0 → report ≡ replicate (length report) 0 → Walked b report wit b report wit counts
 unfolding totals
-walked_none b report wit counts c q = record { place = pass_none b; counted = c ∙ sym (ap totals (none_passed b)); clear = q; rows = refl; facts = refl }
+walked_none b report wit counts c q =
+    record { place = left_all b; counted = c ∙ sym (ap totals (all_passed b)); clear = q; rows = refl; facts = refl }

@@ -4,42 +4,66 @@ use mathlib.Core.Bool.{Bool, true, false, ◌&&◌}
 use mathlib.Core.List.{List, [], ◌∷◌, ◌++◌}
 use Prim.Native.Nat.{ℕ, suc, ◌+◌, ◌-◌, ◌*◌, ◌≤◌, ◌<◌}
 use native.Mathlib.Omega.{arith}
-use lib.ListN.{length, get_or, take, drop, take-append-drop, length-drop, drop_of_length-le}
-use lib.Seq.{length-take-le, take-add, take-take, take_all, get_or-take, get_or-drop, drop_at}
+use Rattle.std.specs.Int.{w32, from_le_bytes}
+use Rattle.std.specs.Prelude.{Option, Some, None, MatchOption}
+use Rattle.std.specs.List.{IsSplitAt}
+use Rattle.std.proofs.Common.{Bor}
+use lib.ListN.{length, take, drop, take-append-drop, length-drop, drop_of_length-le}
+use lib.Seq.{length-take-le, take-add, take-take, take_all, get_or-take, drop-drop, drop_at}
 use borrow.Author.Tests.{le-leb, lt-leb}
 use lib.Dec.{leb}
 use Rattle.records.proofs.Lists.{and_i}
 use Rattle.totals.specs.Totals.{long, whole_file, first_file, behind_file, cut_at, files, with_file, open_from, opened, totals}
-use Rattle.totals.specs.declared.Opening.TheVariants.{Whole, Cut}
 use Rattle.totals.specs.Claims.{joined_boxes, added}
-use Rattle.totals.specs.Held.{opening_of}
 use Rattle.totals.proofs.Joining.{open_nil, open_whole, open_cut, whole_within, boxes_joined}
 use Rattle.totals.proofs.Counts.{totals_joined}
 
--- ---- the length at an offset
+-- ---- the file in front
 
-pub long_at : (b : List ℕ) (at : ℕ)
-    → long (drop at b) ≡ get_or b at 0 + get_or b (at + 1) 0 * 256 + (get_or b (at + 2) 0 + get_or b (at + 3) 0 * 256) * 65536
+-- its length, as the library reads four bytes
+pub long_is : (b : List ℕ) → from_le_bytes w32 (take 4 b) ≡ long b
 unfolding long
-long_at b at =
-    ap₂ (λ (m n : ℕ). m + n * 65536)
-    (ap₂ (λ (m n : ℕ). m + n * 256) (get_or-drop at b 0 0 ∙ ap (λ (i : ℕ). get_or b i 0) (let z : at + 0 ≡ at = omega arith in z)) (get_or-drop at b 1 0))
-    (ap₂ (λ (m n : ℕ). m + n * 256) (get_or-drop at b 2 0) (get_or-drop at b 3 0))
+long_is b =
+    let a = get_or-take 4 b 0 0 (omega arith) in
+    let c = get_or-take 4 b 1 0 (omega arith) in
+    let d = get_or-take 4 b 2 0 (omega arith) in
+    let e = get_or-take 4 b 3 0 (omega arith) in omega arith
 
 -- no length fits there
-pub none_left : (b : List ℕ) (at : ℕ) → length b - at < 4 → false ≡ whole_file (drop at b)
+pub none_left : (b : List ℕ) → length b < 4 → whole_file b ≡ false
 unfolding whole_file
-none_left b at h =
-    let l = length-drop at b in
-    sym (ap (λ (t : Bool). t && leb (long (drop at b)) (length (drop at b) - 4)) (lt-leb 4 (length (drop at b)) (omega arith)))
+none_left b h = ap (λ (t : Bool). t && leb (long b) (length b - 4)) (lt-leb 4 (length b) h)
 
 -- one fits: its file is compared with what is left
-pub one_left : (b : List ℕ) (at : ℕ) → 4 ≤ length b - at → leb (long (drop at b)) (length b - at - 4) ≡ whole_file (drop at b)
+pub one_left : (b : List ℕ) → 4 ≤ length b → whole_file b ≡ leb (long b) (length b - 4)
 unfolding whole_file
-one_left b at h =
-    let l = length-drop at b in
-    ap (λ (n : ℕ). leb (long (drop at b)) (n - 4)) (sym l)
-    ∙ sym (ap (λ (t : Bool). t && leb (long (drop at b)) (length (drop at b) - 4)) (le-leb 4 (length (drop at b)) (omega arith)))
+one_left b h = ap (λ (t : Bool). t && leb (long b) (length b - 4)) (le-leb 4 (length b) h)
+
+module _ (b : List ℕ) (h : 4 ≤ length b) where
+  pub file_cut : length (drop 4 b) < long b → whole_file b ≡ false
+  file_cut l = let d = length-drop 4 b in one_left b h ∙ lt-leb (long b) (length b - 4) (omega arith)
+
+  pub file_whole : long b ≤ length (drop 4 b) → whole_file b ≡ true
+  file_whole l = let d = length-drop 4 b in one_left b h ∙ le-leb (long b) (length b - 4) (omega arith)
+
+pub front_is : (b : List ℕ) → take (long b) (drop 4 b) ≡ first_file b
+unfolding first_file
+front_is b = refl
+
+pub behind_is : (b : List ℕ) → drop (long b) (drop 4 b) ≡ behind_file b
+unfolding behind_file
+behind_is b = drop-drop (long b) 4 b
+
+-- what splitting behind the length comes to
+pub split_is : (b : List ℕ) → 4 ≤ length b → (size : ℕ) → size ≡ long b → (o : Option (Bor (List ℕ) × Bor (List ℕ)))
+    → MatchOption o (length (drop 4 b) < size) (λ p. IsSplitAt (drop 4 b) size p.0.now p.1.now)
+    → MatchOption o (whole_file b ≡ false) (λ p. (whole_file b ≡ true) × (p.0.now ≡ first_file b) × (p.1.now ≡ behind_file b))
+split_is b h size e None l = file_cut b h (omega arith)
+split_is b h size e (Some p) s = (
+  file_whole b h (let l = s.0 in omega arith),
+  s.1 ∙ ap (λ (n : ℕ). take n (drop 4 b)) e ∙ front_is b,
+  s.2 ∙ ap (λ (n : ℕ). drop n (drop 4 b)) e ∙ behind_is b,
+)
 
 -- a whole file, and nothing behind it
 module _ (b : List ℕ) (w : whole_file b ≡ true) where
@@ -146,8 +170,61 @@ module _ {b : List ℕ} {at : ℕ} (P : Passed b at) where
   unfolding pass_file
   pass_passed next w e = refl
 
-  pub pass_cut : at < length b → whole_file (drop at b) ≡ false → Cut at ≡ opening_of (opened b)
-  pass_cut l w = ap opening_of (sym (box_cut b at P.passed P.within P.whole l w))
+-- what is left of a box, behind whole files
+pub record Left (b rest : List ℕ) : Type 0 where
+  pub at : ℕ
+  pub place : Passed b at
+  pub left : rest ≡ drop at b
 
-  pub pass_end : length b ≤ at → Whole ≡ opening_of (opened b)
-  pass_end l = ap opening_of (sym (box_end b at P.passed P.within P.whole l))
+pub left_all : (b : List ℕ) → Left b b
+left_all b = record { at = 0; place = pass_none b; left = refl }
+
+pub all_passed : (b : List ℕ) → (left_all b).place.passed ≡ []
+unfolding left_all
+all_passed b = none_passed b
+
+module _ {b rest : List ℕ} (L : Left b rest) where
+  pub left_length : L.at + length rest ≡ length b
+  left_length = let e = ap length L.left ∙ length-drop L.at b in let w = L.place.within in omega arith
+
+  -- no whole file there: the box is cut, or these are all
+  pub left_cut : 0 < length rest → whole_file rest ≡ false → opened b ≡ cut_at L.at
+  left_cut l w = let e = left_length in box_cut b L.at L.place.passed L.place.within L.place.whole (omega arith) (ap whole_file (sym L.left) ∙ w)
+
+  pub left_end : length rest ≡ 0 → opened b ≡ files L.place.passed
+  left_end z = let e = left_length in box_end b L.at L.place.passed L.place.within L.place.whole (omega arith)
+
+  module _ (w : whole_file rest ≡ true) where
+    stands : whole_file (drop L.at b) ≡ true
+    stands = ap whole_file (sym L.left) ∙ w
+
+    -- one file more
+    pub left_more : {behind : List ℕ} → behind ≡ behind_file rest → Left b behind
+    left_more e =
+        record {
+          at = L.at + 4 + long (drop L.at b);
+          place = pass_file L.place (L.at + 4 + long (drop L.at b)) stands refl;
+          left = e ∙ ap behind_file L.left ∙ sym (behind_is (drop L.at b)) ∙ drop-drop (long (drop L.at b)) 4 (drop L.at b)
+              ∙ drop-drop (4 + long (drop L.at b)) L.at b
+              ∙ ap (λ (n : ℕ). drop n b) (let z : L.at + (4 + long (drop L.at b)) ≡ L.at + 4 + long (drop L.at b) = omega arith in z);
+        }
+
+    pub more_passed : {behind : List ℕ} (e : behind ≡ behind_file rest) → (left_more e).place.passed ≡ L.place.passed ++ (first_file rest ∷ [])
+    unfolding left_more
+    more_passed e =
+        pass_passed L.place (L.at + 4 + long (drop L.at b)) stands refl
+        ∙ ap (λ (f : List ℕ). L.place.passed ++ (f ∷ [])) (ap first_file (sym L.left))
+
+-- the file in front takes its length, and four bytes for it
+module _ (rest : List ℕ) (w : whole_file rest ≡ true) where
+  pub first_length : length (first_file rest) ≡ long rest
+  first_length =
+      let h = whole_within rest w in
+      let d = length-drop 4 rest in
+      ap length (sym (front_is rest)) ∙ length-take-le (long rest) (drop 4 rest) (omega arith)
+
+  pub behind_length : length (behind_file rest) + (4 + long rest) ≡ length rest
+  behind_length =
+      let h = whole_within rest w in
+      let d = length-drop 4 rest in
+      let e = ap length (sym (behind_is rest)) ∙ length-drop (long rest) (drop 4 rest) in omega arith

@@ -1,10 +1,10 @@
 -- The rows in a report that was clear: their names are read off, and they are cleared again. Assumes nothing.
-use mathlib.Core.Path.{◌≡◌, refl, sym, ap, ap₂, ◌∙◌}
+use mathlib.Core.Path.{◌≡◌, refl, ap, ◌∙◌}
 use mathlib.Core.List.{List, [], ◌∷◌, ◌++◌, map}
 use Prim.Native.Nat.{ℕ, zero, suc, ◌+◌, ◌-◌, ◌*◌, ◌≤◌, ◌<◌}
 use native.Mathlib.Omega.{arith}
-use lib.ListN.{length, get_or, drop, replicate, length-drop, length-replicate, replicate-append-replicate}
-use lib.Seq.{get_or-drop, drop-drop, drop_at}
+use lib.ListN.{length, get_or, drop, replicate, length-replicate, replicate-append-replicate}
+use lib.Seq.{drop_at}
 use Rattle.records.specs.Memory.{over}
 use Rattle.records.proofs.Memory.{drop_replicate}
 use Rattle.classes.specs.Classes.{name_number}
@@ -15,7 +15,7 @@ use Rattle.verdict.proofs.Known.{name_range}
 
 -- ---- the first row
 
-front_none : (l : List ℕ) → get_or l 3 0 ≡ 0 → names_in l ≡ []
+pub front_none : (l : List ℕ) → get_or l 3 0 ≡ 0 → names_in l ≡ []
 unfolding names_in
 front_none [] e = refl
 front_none (a ∷ []) e = refl
@@ -24,7 +24,7 @@ front_none (a ∷ c ∷ m ∷ []) e = refl
 front_none (a ∷ c ∷ m ∷ zero ∷ l) e = refl
 front_none (a ∷ c ∷ m ∷ suc k ∷ l) e = absurd (omega arith)
 
-front_some : (l : List ℕ) → (get_or l 3 0 ≡ 0 → ⊥) → names_in l ≡ get_or l 3 0 ∷ names_in (drop 4 l)
+pub front_some : (l : List ℕ) → (get_or l 3 0 ≡ 0 → ⊥) → names_in l ≡ get_or l 3 0 ∷ names_in (drop 4 l)
 unfolding names_in
 front_some [] h = absurd (h refl)
 front_some (a ∷ []) h = absurd (h refl)
@@ -33,25 +33,13 @@ front_some (a ∷ c ∷ m ∷ []) h = absurd (h refl)
 front_some (a ∷ c ∷ m ∷ zero ∷ l) h = absurd (h refl)
 front_some (a ∷ c ∷ m ∷ suc k ∷ l) h = refl
 
-front_short : (l : List ℕ) → length l < 4 → names_in l ≡ []
+pub front_short : (l : List ℕ) → length l < 4 → names_in l ≡ []
 unfolding names_in
 front_short [] h = refl
 front_short (a ∷ []) h = refl
 front_short (a ∷ c ∷ []) h = refl
 front_short (a ∷ c ∷ m ∷ []) h = refl
 front_short (a ∷ c ∷ m ∷ k ∷ l) h = absurd (omega arith)
-
-module _ (s : List ℕ) (at : ℕ) where
-  pub names_none : get_or s (at + 3) 0 ≡ 0 → names_in (drop at s) ≡ []
-  names_none e = front_none (drop at s) (get_or-drop at s 3 0 ∙ e)
-
-  pub names_some : (get_or s (at + 3) 0 ≡ 0 → ⊥) → names_in (drop at s) ≡ get_or s (at + 3) 0 ∷ names_in (drop (at + 4) s)
-  names_some h =
-      front_some (drop at s) (λ e. h (sym (get_or-drop at s 3 0) ∙ e))
-      ∙ ap₂ ◌∷◌ (get_or-drop at s 3 0) (ap names_in (drop-drop 4 at s))
-
-  pub names_short : length s - at < 4 → names_in (drop at s) ≡ []
-  names_short h = front_short (drop at s) (let l = length-drop at s in omega arith)
 
 -- ---- all rows
 

@@ -6,20 +6,11 @@ use mathlib.Core.List.{List, [], ◌∷◌, ◌++◌, map}
 use Prim.Native.Nat.{ℕ, zero, suc, ◌+◌, ◌≤◌, ◌<◌}
 use native.Mathlib.Omega.{arith}
 use lib.Dec.{eqb}
-use lib.ListN.{length, get_or}
+use lib.ListN.{length}
 use borrow.Author.Tests.{eqb-true, eqb-false, ne_eqb}
 use Rattle.records.specs.Lists.{add_if, count_by, numbers_from}
 use Rattle.records.proofs.Lists.{bool_cases}
 use Rattle.totals.specs.Claims.{sum, added}
-
-pub numbers_at : (f : ℕ → ℕ) (k m i : ℕ) → i < m → get_or (map f (numbers_from k m)) i 0 ≡ f (k + i)
-numbers_at f k zero i h = absurd (omega arith)
-numbers_at f k (suc m) zero h = ap f (let z : k ≡ k + 0 = omega arith in z)
-numbers_at f k (suc m) (suc i) h = numbers_at f (suc k) m i (omega arith) ∙ ap f (let z : suc k + i ≡ k + suc i = omega arith in z)
-
-pub numbers_length : (f : ℕ → ℕ) (k m : ℕ) → length (map f (numbers_from k m)) ≡ m
-numbers_length f k zero = refl
-numbers_length f k (suc m) = ap suc (numbers_length f (suc k) m)
 
 -- ---- one element more
 
@@ -30,18 +21,18 @@ module _ (h : ℕ → ℕ) (a : ℕ) where
   -- below all the numbers
   sum_miss : (k m : ℕ) → a < k → sum (map more (numbers_from k m)) ≡ sum (map h (numbers_from k m))
   sum_miss k zero l = refl
-  sum_miss k (suc m) l = ap₂ ◌+◌ (ap (λ b. add_if b (h k)) (ne_eqb k a (λ e. omega arith))) (sum_miss (suc k) m (omega arith))
+  sum_miss k (suc m) l = ap₂ ◌+◌ (ap (λ b. add_if b (h k)) (ne_eqb k a (λ e. omega arith))) (sum_miss (k + 1) m (omega arith))
 
   -- among them
   sum_hit : (k m : ℕ) → k ≤ a → a < k + m → sum (map more (numbers_from k m)) ≡ suc (sum (map h (numbers_from k m)))
   sum_hit k zero l g = absurd (omega arith)
-  sum_hit k (suc m) l g = go (bool_cases (eqb k a)) (λ i. sum_hit (suc k) m i (omega arith))
+  sum_hit k (suc m) l g = go (bool_cases (eqb k a)) (λ i. sum_hit (k + 1) m i (omega arith))
     where
-      go : (eqb k a ≡ true) ⊎ (eqb k a ≡ false) → (suc k ≤ a → sum (map more (numbers_from (suc k) m)) ≡ suc (sum (map h (numbers_from (suc k) m))))
-          → add_if (eqb k a) (h k) + sum (map more (numbers_from (suc k) m)) ≡ suc (h k + sum (map h (numbers_from (suc k) m)))
+      go : (eqb k a ≡ true) ⊎ (eqb k a ≡ false) → (k + 1 ≤ a → sum (map more (numbers_from (k + 1) m)) ≡ suc (sum (map h (numbers_from (k + 1) m))))
+          → add_if (eqb k a) (h k) + sum (map more (numbers_from (k + 1) m)) ≡ suc (h k + sum (map h (numbers_from (k + 1) m)))
       go (inl t) ih =
           let e = eqb-true k a t in
-          let r = sum_miss (suc k) m (omega arith) in
+          let r = sum_miss (k + 1) m (omega arith) in
           let s : add_if (eqb k a) (h k) ≡ suc (h k) = ap (λ b. add_if b (h k)) t in omega arith
       go (inr f) ih =
           let ne = eqb-false k a f in
@@ -50,7 +41,7 @@ module _ (h : ℕ → ℕ) (a : ℕ) where
 
 sum_none : (k m : ℕ) → sum (map (λ _. 0) (numbers_from k m)) ≡ 0
 sum_none k zero = refl
-sum_none k (suc m) = let h = sum_none (suc k) m in omega arith
+sum_none k (suc m) = let h = sum_none (k + 1) m in omega arith
 
 -- where every element has one of the numbers, the counts add up to all
 pub sum_counts : {A : Type 0} (g : A → ℕ) (k m : ℕ) → ((x : A) → (k ≤ g x) × (g x < k + m)) → (l : List A)

@@ -1,18 +1,27 @@
 -- How the code holds a box and its totals: what opening a box answers, and totals that are counted one by one. Assumes nothing.
-use Rattle.std.specs.Prelude.{List, [], ◌∷◌, map, ℕ, zero, suc, ◌+◌, ◌*◌, ◌<◌, get_or, set}
+use Rattle.std.specs.Prelude.{Result, Ok, Err, ⊤, List, [], ◌∷◌, map, ℕ, zero, suc, ◌+◌, ◌*◌, ◌<◌, get_or, set}
 use Rattle.literals.specs.Decode.{max_actions, max_literals}
 use Rattle.classes.specs.Classes.{name_number}
 use Rattle.verdict.specs.Decision.{Row}
-use Rattle.verdict.specs.Judged.{decided_file}
-use Rattle.totals.specs.declared.Opening.{Opening}
-use Rattle.totals.specs.declared.Opening.TheVariants.{Whole, Cut}
-use Rattle.totals.specs.Totals.{Opened, cut_at, files, opened, rows_of_file, name_mark}
+use Rattle.verdict.specs.Judged.{Answer, answer_at, decided_file}
+use Rattle.totals.specs.declared.Uncounted.{Uncounted}
+use Rattle.totals.specs.declared.Uncounted.TheVariants.{Cut, Short}
+use Rattle.totals.specs.Totals.{Opened, cut_at, files, opened, rows_of_file, name_mark, totals_size}
 
 -- ---- the box
 
-abbrev pub opening_of : Opened → Opening
-opening_of (cut_at at) = Cut at
-opening_of (files fs) = Whole
+abbrev pub opening_of : Opened → Result ⊤ Uncounted
+opening_of (cut_at at) = Err (Cut at)
+opening_of (files fs) = Ok tt
+
+-- the answer to a box that is not counted, and to any
+abbrev pub uncounted : Uncounted → Answer
+uncounted (Cut at) = answer_at 33 at
+uncounted Short = answer_at 30 0
+
+abbrev pub answer_to : Result ⊤ Uncounted → Answer
+answer_to (Ok u) = answer_at 0 totals_size
+answer_to (Err e) = uncounted e
 
 abbrev pub files_of : Opened → List (List ℕ)
 files_of (cut_at at) = []

@@ -1,58 +1,45 @@
 // The totals while they are counted, those of the numbers before those of the names.
 ghost use Rattle.std.specs.Prelude.{◌≡◌, map, ℕ, ◌+◌, ◌*◌, ◌≤◌, ◌<◌, length, replicate};
 ghost use Rattle.records.specs.Lists.{In};
-ghost use Rattle.records.specs.Memory.{over};
 ghost use Rattle.totals.specs.Totals.{opened, files, counted_names, total_count, name_mark, totals};
 ghost use Rattle.totals.specs.Held.{files_in, one_more, one_more_each, names_in, marks_of, Room, enough_report, enough_witness};
 
-use super::LAST_NUMBER;
-use super::boxes::length_at;
+use super::boxes::first_file;
+use super::{LAST_NUMBER, TOTALS};
 use judging::judge;
 use literals::limits::{MAX_ACTIONS, MAX_LITERALS};
 
 // One total is one higher.
-fn add_one(counts: &mut [u64], at: usize)
-    requires within { at < length counts.old }
+fn add_one(counts: &mut [u64; TOTALS], at: usize)
+    requires within { at < total_count }
     requires room { Room counts.old 1 }
     ensures { counts.new ≡ one_more counts.old at }
 {
-    counts[at] = counts[at] + 1;
+    counts[at] += 1;
 }
 
 // Counts the names in a report, up to the first row that is clear; the offset of that row.
-fn count_names(report: &[u8], counts: &mut [u64]) -> usize
-    requires totals { length counts.old ≡ total_count }
+fn count_names(report: &[u8], counts: &mut [u64; TOTALS]) -> usize
     requires names { (k : ℕ) → In k (names_in report.now) → k ≤ counted_names }
     requires room { Room counts.old (length (names_in report.now)) }
     ensures rows { result ≡ 4 * length (names_in report.now) }
     ensures counted { counts.new ≡ one_more_each counts.old (map name_mark (names_in report.now)) }
 {
-    let mut at = 0;
-    while 4 <= report.len() - at {
-        let name = report[at + 3];
+    let mut rest = report;
+    while let Some((row, behind)) = rest.split_first_chunk::<4>() {
+        let name = row[3];
         if name == 0 {
-            return at;
+            break;
         }
-        add_one(counts, LAST_NUMBER + name as usize);
-        at = at + 4;
+        add_one(counts, LAST_NUMBER + usize::from(name));
+        rest = behind;
     }
-    at
-}
-
-// Clears the first bytes.
-fn clear(report: &mut [u8], end: usize)
-    requires { end ≤ length report.old }
-    ensures { report.new ≡ over (replicate end 0) report.old }
-{
-    for i in 0..end {
-        report[i] = 0;
-    }
+    report.len() - rest.len()
 }
 
 // Judges a file with memory enough, and counts its number and the names of its moments: none where it is refused, since judging then
 // leaves the report as it was. The report is clear before and after, so its rows end at the first that is clear; only these are cleared.
-fn count_file(file: &[u8], report: &mut [u8], witness: &mut [u8], counts: &mut [u64])
-    requires totals { length counts.old ≡ total_count }
+fn count_file(file: &[u8], report: &mut [u8], witness: &mut [u8], counts: &mut [u64; TOTALS])
     requires room { Room counts.old (1 + length file.now) }
     requires rows { enough_report ≤ length report.old }
     requires facts { enough_witness ≤ length witness.old }
@@ -63,11 +50,11 @@ fn count_file(file: &[u8], report: &mut [u8], witness: &mut [u8], counts: &mut [
     let answer = judge(file, report, witness);
     add_one(counts, answer.number as usize);
     let end = count_names(report, counts);
-    clear(report, end);
+    report[..end].fill(0);
 }
 
 // Counts the files of a whole box, one after the other.
-fn count_all(packed: &[u8], report: &mut [u8], witness: &mut [u8], counts: &mut [u64])
+fn count_all(packed: &[u8], report: &mut [u8], witness: &mut [u8], counts: &mut [u64; TOTALS])
     requires whole { opened packed.now ≡ files (files_in packed.now) }
     requires rows { enough_report ≤ length report.old }
     requires facts { enough_witness ≤ length witness.old }
@@ -75,18 +62,16 @@ fn count_all(packed: &[u8], report: &mut [u8], witness: &mut [u8], counts: &mut 
     requires none { counts.old ≡ replicate total_count 0 }
     ensures { counts.new ≡ totals (files_in packed.now) }
 {
-    let mut at = 0;
-    while at < packed.len() {
-        let start = at + 4;
-        let end = start + length_at(packed, at);
-        count_file(&packed[start..end], report, witness, counts);
-        at = end;
+    let mut rest = packed;
+    while let Some((file, behind)) = first_file(rest) {
+        count_file(file, report, witness, counts);
+        rest = behind;
     }
 }
 
 // The same, with memory that is enough for every file: 4 bytes for each moment, and 8 for each true condition of an action and for one
 // fact more.
-pub fn count_files(packed: &[u8], counts: &mut [u64])
+pub fn count_files(packed: &[u8], counts: &mut [u64; TOTALS])
     requires whole { opened packed.now ≡ files (files_in packed.now) }
     requires none { counts.old ≡ replicate total_count 0 }
     ensures { counts.new ≡ totals (files_in packed.now) }

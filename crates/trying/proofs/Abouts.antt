@@ -71,7 +71,7 @@ own_of r back t = go (same_time AtStart r.time) refl (ap (λ (q : Role). eqb (us
 -- of the objects in order
 any_objects : (p : Object → Bool) (k n : ℕ) → any (λ o. p (object o)) (numbers_from k n) ≡ any p (objects_from k n)
 any_objects p k zero = refl
-any_objects p k (suc n) = ap (λ (b : Bool). p (object k) || b) (any_objects p (suc k) n)
+any_objects p k (suc n) = ap (λ (b : Bool). p (object k) || b) (any_objects p (k + 1) n ∙ ap (λ j. any p (objects_from j n)) (add-one k))
 
 module _ (D : Domain) (wf : well_formed D ≡ true) (i : ℕ) (idx : i < length D.actions) {head : List ℕ} (H : TemplateOf D head) where
   abbrev b : Binding
@@ -191,7 +191,7 @@ module _ (D : Domain) (wf : well_formed D ≡ true) (i : ℕ) (idx : i < length 
         (ap (weight D y) (start_alone D wf i idx)) (sym (free_is y keys))
 
     module _ {r : Alone} {base after : List ℕ} (A : AloneOf D i head r base after) where
-      literals_are : ground_in r.literals (literals_in base) ≡ ls
+      literals_are : ground_in r.counts.literals (literals_in base) ≡ ls
       unfolding flat_map
       literals_are = A.conditions.grounded.laid.filled ∙ append-nil ls
 
@@ -205,12 +205,12 @@ module _ (D : Domain) (wf : well_formed D ≡ true) (i : ℕ) (idx : i < length 
       class_tried row e =
           ap (tries_by_rows head r base after) (e ∙ tuple_objects)
           ∙ ap₂ (λ (w v : ℕ). tries_by w r.allowed v
-          (any_free head (objects_row y) (r.variables + 1) (ground_in r.literals (literals_in base))))
-          (weighed r.held (effects_in base) (held_facts D i) A.conditions.held (held_fits D wf i idx))
+          (any_free head (objects_row y) (r.counts.variables + 1) (ground_in r.counts.literals (literals_in base))))
+          (weighed r.counts.held (effects_in base) (held_facts D i) A.conditions.held (held_fits D wf i idx))
           (weighed r.left after (next D objs (start_state (held_facts D i)) (plain_event D i ∷ [])).facts A.left (left_fits D wf i idx))
           ∙ ap₂ (λ (t : Bool) (gs : List GroundLiteral). tries_by (weight D y (held_facts D i)) t
           (weight D y (next D objs (start_state (held_facts D i)) (plain_event D i ∷ [])).facts)
-          (any_free head (objects_row y) (r.variables + 1) gs)) A.allowed literals_are
+          (any_free head (objects_row y) (r.counts.variables + 1) gs)) A.allowed literals_are
           ∙ ap (λ (n : ℕ). tries_by (weight D y (held_facts D i)) (allowed D objs (start_state (held_facts D i)) (plain_event D i ∷ []))
           (weight D y (next D objs (start_state (held_facts D i)) (plain_event D i ∷ [])).facts) (any_free head (objects_row y) n ls))
           (ap (λ (m : ℕ). m + 1) A.conditions.variables ∙ add-one (action D i).vars)

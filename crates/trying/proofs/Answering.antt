@@ -1,5 +1,5 @@
 -- The answers as the code gives them: by cases for a class, and one byte more. Assumes nothing.
-use mathlib.Core.Path.{◌≡◌, refl, sym, ap, ap₂, subst, ◌∙◌}
+use mathlib.Core.Path.{◌≡◌, refl, sym, ap, ap₂, ◌∙◌}
 use mathlib.Core.Bool.{Bool, true, false, not, ◌&&◌, cond}
 use mathlib.Core.List.{List, [], ◌∷◌, ◌++◌, append-nil, append_assoc}
 use Prim.Native.Nat.{ℕ, zero, suc, ◌+◌, ◌-◌, ◌*◌, ◌≤◌, ◌<◌}
@@ -20,7 +20,6 @@ use Rattle.literals.proofs.Indices.{get_d_map}
 use Rattle.classes.specs.Classes.{classes}
 use Rattle.classes.specs.Held.{tuple_row}
 use Rattle.verdict.specs.Claims.{well_formed}
-use Rattle.services.specs.Service.{DeliveredAs}
 use Rattle.store.specs.Held.{row_weight}
 use Rattle.events.specs.Held.{ground_in}
 use Rattle.effects.specs.Held.{literals_in, effects_in}
@@ -37,13 +36,13 @@ and_none false = refl
 
 module _ (head : List ℕ) (r : Alone) (base after instance : List ℕ) where
   abbrev before : ℕ
-  before = row_weight (keys_in head) (component_rows_in head) (rows_in r.held (effects_in base)) instance
+  before = row_weight (keys_in head) (component_rows_in head) (rows_in r.counts.held (effects_in base)) instance
 
   abbrev left : ℕ
   left = row_weight (keys_in head) (component_rows_in head) (rows_in r.left after) instance
 
   abbrev free : Bool
-  free = any_free head instance (r.variables + 1) (ground_in r.literals (literals_in base))
+  free = any_free head instance (r.counts.variables + 1) (ground_in r.counts.literals (literals_in base))
 
   pub answer_heavy : {w : ℕ} → w ≡ before → 1 < w → false ≡ tries_by_rows head r base after instance
   unfolding tries_by_rows
@@ -204,15 +203,11 @@ unfolding over
 making_none D made = record { written = refl; bytes = refl }
 
 -- what is made is the engine's
-pub made_is : {D : Domain} {n : ℕ} {made old : List ℕ} → Making D (length D.actions) n made old → take (n - 0) made ≡ tried D
+pub made_is : {D : Domain} {n : ℕ} {made old : List ℕ} → Making D (length D.actions) n made old → take n made ≡ tried D
 unfolding over tried
 made_is {D} {n} {made} {old} M =
     let all : tried_from D 0 (take (length D.actions) D.actions) ≡ tried_from D 0 D.actions =
     ap (tried_from D 0) (take-length D.actions) in
-    ap₂ (λ (k : ℕ) (l : List ℕ). take k l) (sub-zero n) M.bytes
+    ap (take n) M.bytes
     ∙ take_at (tried_from D 0 (take (length D.actions) D.actions)) _ n (sym M.written)
     ∙ all
-
-pub tried_delivered : {made bytes out after : List ℕ} {n k : ℕ} → made ≡ bytes → DeliveredAs made out n k after
-    → DeliveredAs bytes out n k after
-tried_delivered {made} {bytes} {out} {after} {n} {k} e d = subst (λ (l : List ℕ). DeliveredAs l out n k after) e d

@@ -1,5 +1,6 @@
 -- Laws of the loops: the row of the event, the index of its true conditions, the answers of its classes. Assumes nothing.
 use mathlib.Core.Path.{◌≡◌, refl, sym, ap, ap₂, ◌∙◌, subst}
+use mathlib.Core.Bool.{Bool, false, ◌||◌}
 use mathlib.Core.List.Memᴰ
 use mathlib.Core.List.{List, [], ◌∷◌, ◌++◌, map-append, append-nil, append_assoc}
 use Prim.Native.Nat.{ℕ, zero, suc, ◌+◌, ◌-◌, ◌*◌, ◌<◌}
@@ -7,12 +8,15 @@ use native.Mathlib.Numerals.{add-one}
 use native.Mathlib.Omega.{arith}
 use lib.ListN.{length, get_or, set, take, drop, replicate, length-map, length-replicate, get_or-replicate, drop_of_length-le}
 use lib.Seq.{set_at, take_all, paste}
+use Rattle.records.specs.Lists.{any, below}
 use Rattle.records.specs.Memory.{over}
+use Rattle.records.proofs.Lists.{any_append}
 use Rattle.records.proofs.Memory.{paste_front}
 use Rattle.literals.specs.declared.Object.{Object}
 use Rattle.literals.specs.Domain.{object}
 use Rattle.literals.specs.Decode.{byte}
 use Rattle.literals.specs.Held.{rows_in, arity_in, component_row_in}
+use Rattle.literals.proofs.Indices.{below_snoc}
 use Rattle.literals.proofs.Rows.{rows_snoc}
 use Rattle.literals.proofs.Heads.{arity_limit}
 use Rattle.verdict.specs.Binding.{objects_from}
@@ -20,8 +24,9 @@ use Rattle.verdict.specs.Judged.{object_numbers}
 use Rattle.verdict.proofs.Objects.{objects_length}
 use Rattle.store.specs.Held.{fact_index, total_at, Sized, Indexed, instance_bytes_in}
 use Rattle.store.proofs.InstanceFacts.{length_instance_at}
-use Rattle.events.specs.Held.{ground_row}
-use Rattle.trying.specs.Held.{plain_ground}
+use Rattle.verdict.specs.Held.{patterns_meet}
+use Rattle.events.specs.Held.{GroundLiteral, ground_row, ground_at, ground_in}
+use Rattle.trying.specs.Held.{plain_ground, is_about}
 
 -- ---- the row of the event
 
@@ -113,3 +118,17 @@ copied from to next e f g =
     ∙ paste_front from to (length from) refl
     ∙ ap (λ (t : List ℕ). from ++ t) (drop_of_length-le to {i = length from} (omega arith))
     ∙ append-nil from
+
+-- ---- the ground literals by their indices
+
+pub about_below : (memory fact : List ℕ) → length fact ≡ 8 → (n : ℕ)
+    → any (λ i. patterns_meet (take 8 (drop (8 * i) memory)) (take 8 (drop 0 fact))) (below n) ≡ is_about (ground_in n memory) fact
+about_below memory fact e zero = refl
+about_below memory fact e (suc n) =
+    ap (any meets) (below_snoc n)
+    ∙ any_append meets (below n) (n ∷ [])
+    ∙ ap₂ ◌||◌ (about_below memory fact e n) (ap (λ (t : List ℕ). patterns_meet (ground_at memory n).row t || false) (take_all 8 fact (omega arith)))
+    ∙ sym (any_append (λ (l : GroundLiteral). patterns_meet l.row fact) (ground_in n memory) (ground_at memory n ∷ []))
+  where
+    meets : ℕ → Bool
+    meets i = patterns_meet (take 8 (drop (8 * i) memory)) (take 8 (drop 0 fact))

@@ -39,15 +39,15 @@ pub record BaseOf (D : Domain) (i : ℕ) (head : List ℕ) (r : Base) (base : Li
 
 -- a second one, in front, the facts that the step leaves
 pub record AloneOf (D : Domain) (i : ℕ) (head : List ℕ) (r : Alone) (base after : List ℕ) : Type 0 where
-  pub conditions : BaseOf D i head (record { variables = r.variables; literals = r.literals; held = r.held }) base
+  pub conditions : BaseOf D i head r.counts base
   pub allowed : r.allowed ≡ allowed D (plain_objects D i) (start_state (held_facts D i)) (plain_event D i ∷ [])
   pub left : rows_in r.left after ≡ map fact_row (next D (plain_objects D i) (start_state (held_facts D i)) (plain_event D i ∷ [])).facts
 
 -- no more than there is room for
 pub record FewOf (r : Alone) : Type 0 where
-  pub variables : r.variables ≤ max_variables
-  pub literals : r.literals ≤ max_literals
-  pub held : r.held ≤ max_literals
+  pub variables : r.counts.variables ≤ max_variables
+  pub literals : r.counts.literals ≤ max_literals
+  pub held : r.counts.held ≤ max_literals
   pub left : r.left ≤ max_facts + 1
 
 -- ---- further facts, by rows
@@ -76,9 +76,9 @@ tries_by before can after free = leb before 1 && can && (leb 2 after || (eqb bef
 unfoldable pub tries_by_rows : List ℕ → Alone → List ℕ → List ℕ → List ℕ → Bool
 unfolding keys_in component_rows_in row_weight any_free
 tries_by_rows head r base after instance =
-    tries_by (row_weight (keys_in head) (component_rows_in head) (rows_in r.held (effects_in base)) instance) r.allowed
+    tries_by (row_weight (keys_in head) (component_rows_in head) (rows_in r.counts.held (effects_in base)) instance) r.allowed
     (row_weight (keys_in head) (component_rows_in head) (rows_in r.left after) instance)
-    (any_free head instance (r.variables + 1) (ground_in r.literals (literals_in base)))
+    (any_free head instance (r.counts.variables + 1) (ground_in r.counts.literals (literals_in base)))
 
 -- what is held of an action at once and its classes: the rows of its literals, their class numbers, and what the step from its true
 -- conditions comes to

@@ -2,7 +2,7 @@
 ghost use Rattle.std.specs.Prelude.{◌≡◌, true, false, List, ℕ, ◌+◌, ◌*◌, ◌≤◌, ◌<◌, length};
 ghost use Rattle.literals.specs.Domain.{Domain, action};
 ghost use Rattle.literals.specs.Decode.{max_actions, max_literals};
-ghost use Rattle.literals.specs.Held.{Held, PlacesOf};
+ghost use Rattle.literals.specs.Held.{Held};
 ghost use Rattle.verdict.specs.Claims.{well_formed};
 ghost use Rattle.trying.specs.Held.{ActionHeld, Making};
 
@@ -10,28 +10,20 @@ use super::alone::step_alone;
 use super::answers::answer_rows;
 use effects::SCRATCH;
 use literals::head::{Head, actions_in, is_lasting, rows_of};
-use literals::keys::{KEY_PLACES, KeyPlaces, put_places};
+use literals::key_places::Places;
 use literals::limits::MAX_LITERALS;
 
 // Those of the action i, which is at once, behind those that are written; how far they go then.
-fn try_at_once(
-    head: &Head,
-    table: &[u8],
-    places: &KeyPlaces,
-    i: usize,
-    made: &mut [u8],
-    at: usize,
-) -> usize
+fn try_at_once(places: &Places, table: &[u8], i: usize, made: &mut [u8], at: usize) -> usize
     requires action { i < max_actions }
-    requires listed { ActionHeld head.now table.now i }
-    requires places { PlacesOf head.now places.now }
+    requires listed { ActionHeld places.now.head.now table.now i }
     requires room { at + max_literals ≤ length made.old }
     ensures few { result ≤ at + max_literals }
-    ensures answers { (D : Domain) (old : List ℕ) → Held D head.now table.now → well_formed D ≡ true
+    ensures answers { (D : Domain) (old : List ℕ) → Held D places.now.head.now table.now → well_formed D ≡ true
         → i < length D.actions → Making D i at made.old old → (action D i).lasting ≡ false
         → Making D (i + 1) result made.new old }
 {
-    let span = rows_of(head, table, i);
+    let span = rows_of(places.head, table, i);
     let first = span.from;
     let last = span.to;
     let from = 8 * first;
@@ -40,10 +32,9 @@ fn try_at_once(
     let mut numbers = [0u8; MAX_LITERALS];
     let mut base = [0u8; SCRATCH];
     let mut after = [0u8; SCRATCH];
-    let alone = step_alone(head, table, i, &mut base, &mut after);
+    let alone = step_alone(places.head, table, i, &mut base, &mut after);
     let end = at + MAX_LITERALS;
     let count = answer_rows(
-        head,
         places,
         alone,
         &base,
@@ -56,26 +47,18 @@ fn try_at_once(
 }
 
 // Those of the action i: none where it lasts.
-fn try_action(
-    head: &Head,
-    table: &[u8],
-    places: &KeyPlaces,
-    i: usize,
-    made: &mut [u8],
-    at: usize,
-) -> usize
+fn try_action(places: &Places, table: &[u8], i: usize, made: &mut [u8], at: usize) -> usize
     requires action { i < max_actions }
-    requires listed { ActionHeld head.now table.now i }
-    requires places { PlacesOf head.now places.now }
+    requires listed { ActionHeld places.now.head.now table.now i }
     requires room { at + max_literals ≤ length made.old }
     ensures few { result ≤ at + max_literals }
-    ensures answers { (D : Domain) (old : List ℕ) → Held D head.now table.now → well_formed D ≡ true
+    ensures answers { (D : Domain) (old : List ℕ) → Held D places.now.head.now table.now → well_formed D ≡ true
         → i < length D.actions → Making D i at made.old old → Making D (i + 1) result made.new old }
 {
-    if is_lasting(head, i) {
+    if is_lasting(places.head, i) {
         return at;
     }
-    try_at_once(head, table, places, i, made, at)
+    try_at_once(places, table, i, made, at)
 }
 
 // Those of all actions: how many bytes they are.
@@ -86,11 +69,10 @@ pub fn try_actions(head: &Head, table: &[u8], made: &mut [u8]) -> usize
     ensures answers { (D : Domain) (old : List ℕ) → Held D head.now table.now → well_formed D ≡ true
         → Making D 0 0 made.old old → Making D (length D.actions) result made.new old }
 {
-    let mut places = [0u8; KEY_PLACES];
-    put_places(head, &mut places);
+    let places = Places::of(head);
     let mut end = 0;
     for i in 0..actions_in(head) {
-        end = try_action(head, table, &places, i, made, end);
+        end = try_action(&places, table, i, made, end);
     }
     end
 }

@@ -11,8 +11,9 @@ ghost use Rattle.trying.specs.Held.{ActionHeld, BaseOf, FewOf, AloneOf};
 use super::plain::ground_plain;
 use applicability::conditions::events_met;
 use effects::{SCRATCH, facts_after, step_effects};
-use events::grounding::GROUNDED;
+use events::grounding::{GROUNDED, TRUE_CONDITION};
 use literals::head::{Head, variables_of};
+use literals::limits::MAX_FACTS;
 use records::bytes::put_bytes;
 use store::index::{FACT_INDEX, FactIndex, enter};
 
@@ -27,9 +28,7 @@ pub struct Base {
 // Besides, what the step from the true conditions comes to: whether it is allowed, and how many facts it leaves.
 #[derive(Clone, Copy)]
 pub struct Alone {
-    pub variables: u8,
-    pub literals: usize,
-    pub held: usize,
+    pub counts: Base,
     pub allowed: bool,
     pub left: usize,
 }
@@ -54,7 +53,7 @@ fn ground_base(head: &Head, table: &[u8], i: usize, base: &mut [u8]) -> Base
         → i < length D.actions → BaseOf D i head.now result base.new }
 {
     let literals = ground_plain(head, table, i, &mut base[0..GROUNDED]);
-    let held = step_effects(base, 0, literals, 1);
+    let held = step_effects(base, 0, literals, TRUE_CONDITION);
     Base {
         variables: variables_of(head, i),
         literals,
@@ -83,11 +82,9 @@ fn step_base(head: &Head, base: &[u8], counts: Base, after: &mut [u8]) -> Alone
     let allowed = events_met(literals, counts.literals, &index, held, counts.held);
     let left = facts_after(head, held, counts.held, after, counts.literals, &mut index);
     Alone {
-        variables: counts.variables,
-        literals: counts.literals,
-        held: counts.held,
+        counts,
         allowed,
-        left: left.facts,
+        left: left.facts.unwrap_or(MAX_FACTS + 1),
     }
 }
 

@@ -3,7 +3,6 @@ ghost use Rattle.std.specs.Prelude.{◌≡◌, true, cond, ℕ, ◌*◌, ◌≤�
 ghost use Rattle.records.specs.Memory.{over};
 ghost use Rattle.literals.specs.Domain.{Domain, action};
 ghost use Rattle.literals.specs.Decode.{max_literals};
-ghost use Rattle.literals.specs.Held.{PlacesOf};
 ghost use Rattle.classes.specs.Classes.{classes};
 ghost use Rattle.classes.specs.Held.{ActionOf, Sides, class_numbers};
 ghost use Rattle.verdict.specs.Claims.{well_formed};
@@ -16,7 +15,7 @@ use classes::number::{class_tuple, number_classes};
 use effects::SCRATCH;
 use events::grounding::GROUNDED;
 use literals::head::Head;
-use literals::keys::KeyPlaces;
+use literals::key_places::Places;
 use literals::limits::MAX_LITERALS;
 use store::weighing::weigh;
 
@@ -28,41 +27,24 @@ fn try_class(head: &Head, alone: Alone, base: &[u8], after: &[u8], instance: [u8
     requires after { length after.now ≡ scratch_bytes }
     ensures { result ≡ tries_by_rows head.now alone base.now after.now instance }
 {
-    let before = weigh(head, &base[GROUNDED..SCRATCH], alone.held, instance);
-    if 1 < before {
+    let before = weigh(head, &base[GROUNDED..SCRATCH], alone.counts.held, instance);
+    if 1 < before || !alone.allowed {
         return false;
     }
-    if !alone.allowed {
-        return false;
+    match weigh(head, after, alone.left, instance) {
+        0 => false,
+        1 => {
+            before == 0
+                && any_free(
+                    head,
+                    &instance,
+                    alone.counts.variables + 1,
+                    &base[0..GROUNDED],
+                    alone.counts.literals,
+                )
+        }
+        _ => true,
     }
-    let left = weigh(head, after, alone.left, instance);
-    if 2 <= left {
-        return true;
-    }
-    if before == 1 {
-        return false;
-    }
-    if left == 0 {
-        return false;
-    }
-    let keys = instance;
-    any_free(
-        head,
-        &keys,
-        alone.variables + 1,
-        &base[0..GROUNDED],
-        alone.literals,
-    )
-}
-
-// "1 yes, 0 no".
-fn answer_byte(yes: bool) -> u8
-    ensures { result ≡ cond yes 1 0 }
-{
-    if yes {
-        return 1;
-    }
-    0
 }
 
 // The answers for all classes of an action, whose literals are these rows with these class numbers.
@@ -84,18 +66,17 @@ fn put_answers(
         rows.now numbers.now → length made.old ≡ length (classes D (action D i))
         → made.new ≡ answers_of D i }
 {
+    // An index: what a memory holds after a loop over `iter_mut` is not known to a proof.
     for j in 0..made.len() {
         let instance = class_tuple(head, rows, numbers, j as u8);
-        let yes = try_class(head, alone, base, after, instance);
-        made[j] = answer_byte(yes);
+        made[j] = u8::from(try_class(head, alone, base, after, instance)); // 1 yes, 0 no
     }
 }
 
 // The same where the classes are not numbered yet, at the front of a memory: how many they are. `numbers` gets the class number of each
 // literal.
 pub fn answer_rows(
-    head: &Head,
-    places: &KeyPlaces,
+    places: &Places,
     alone: Alone,
     base: &[u8],
     after: &[u8],
@@ -103,7 +84,6 @@ pub fn answer_rows(
     numbers: &mut [u8],
     made: &mut [u8],
 ) -> usize
-    requires places { PlacesOf head.now places.now }
     requires few { FewOf alone }
     requires base { length base.now ≡ scratch_bytes }
     requires after { length after.now ≡ scratch_bytes }
@@ -111,14 +91,22 @@ pub fn answer_rows(
     requires literals { length numbers.old ≤ max_literals }
     requires room { length made.old ≡ max_literals }
     ensures few { result ≤ max_literals }
-    ensures answers { (D : Domain) (i : ℕ) → ActionOf D (action D i) head.now rows.now
+    ensures answers { (D : Domain) (i : ℕ) → ActionOf D (action D i) places.now.head.now rows.now
         → well_formed D ≡ true → i < length D.actions
-        → AloneOf D i head.now alone base.now after.now
+        → AloneOf D i places.now.head.now alone base.now after.now
         → (result ≡ length (answers_of D i)) × (numbers.new ≡ class_numbers D (action D i))
         × (made.new ≡ over (answers_of D i) made.old) }
 {
     let mut words = [0u64; MAX_LITERALS];
-    let count = number_classes(head, places, rows, numbers, &mut words);
-    put_answers(head, alone, base, after, rows, numbers, &mut made[0..count]);
+    let count = number_classes(places, rows, numbers, &mut words);
+    put_answers(
+        places.head,
+        alone,
+        base,
+        after,
+        rows,
+        numbers,
+        &mut made[0..count],
+    );
     count
 }

@@ -19,6 +19,7 @@ fn plain_row(i: u8, variables: u8) -> [u8; GROUND]
 {
     let mut row = [255u8; GROUND];
     row[0] = i;
+    // An index: what a row holds after a loop over `iter_mut` is not known to a proof.
     for k in 0..variables {
         row[k as usize + 1] = k;
     }

@@ -1,7 +1,8 @@
 -- The decision read off the summaries is the decision of the rows. Assumes nothing.
 use mathlib.Core.Path.{◌≡◌, refl, sym, ap, ap₂, ◌∙◌}
 use mathlib.Core.Bool.{Bool, true, false, ◌||◌, cond}
-use mathlib.Core.Option.{Option, none, some}
+use Rattle.std.specs.Prelude.{Option, None, Some}
+use mathlib.Core.Option.{Option as Maybe, none, some}
 use mathlib.Core.List.{List, [], ◌∷◌, ◌++◌, map, map-append, head?}
 use Prim.Native.Nat.{ℕ, suc}
 use borrow.Author.Tests.{eqb-true}
@@ -13,7 +14,6 @@ use Rattle.literals.specs.declared.Moment.{Moment}
 use Rattle.classes.specs.Classes.{moments_of, classes}
 use Rattle.verdict.specs.declared.Spot.{Spot}
 use Rattle.verdict.specs.declared.Place.{Place}
-use Rattle.verdict.specs.declared.Place.TheVariants.{Missing, Found}
 use Rattle.verdict.specs.declared.Summary.{Summary}
 use Rattle.verdict.specs.declared.Notes.{Notes}
 use Rattle.verdict.specs.Decision.{Row, row_at, rows_of_classes, rows_from, rows, is_unbounded, fault_of, is_bounded_outside, first_row, has_fault, or_else, accept, decide_bounded, decide_by, decide_rows, decision}
@@ -39,9 +39,9 @@ numbered D a i j (x ∷ xs) =
 -- ---- the first place of one sort, by a test that does not look at the action's number
 
 -- where a row stands
-abbrev place_of : Option Row → Place
-place_of none = Missing
-place_of (some r) = Found r.action r.class r.moment
+abbrev place_of : Maybe Row → Option Place
+place_of none = None
+place_of (some r) = Some (record { action = r.action; class = r.class; moment = r.moment })
 
 else_place : (xs ys : List Row) → place_of (head? (xs ++ ys)) ≡ place_else (place_of (head? xs)) (place_of (head? ys))
 else_place [] ys = refl
@@ -77,7 +77,7 @@ module _ (p : Row → Bool) (blind : (i : ℕ) (r : Row) → p (renumber i r) �
         go (r ∷ l) = refl
 
   -- of all actions, from the number i on
-  module _ (D : Domain) (f : Summary → Spot) (is : (a : Action) → f (summary_of D a) ≡ first_spot p (rows_of_classes D a 0 0 (classes D a))) where
+  module _ (D : Domain) (f : Summary → Option Spot) (is : (a : Action) → f (summary_of D a) ≡ first_spot p (rows_of_classes D a 0 0 (classes D a))) where
     first_all : (i : ℕ) (acts : List Action) → first_place f i (map (summary_of D) acts) ≡ place_of (first_row p (rows_from D i acts))
     first_all i [] = refl
     first_all i (a ∷ acts) =
@@ -113,7 +113,7 @@ any_number D a i =
 -- ---- the decision
 
 -- of rows: their notes
-abbrev row_notes : Option Row → Option Row → Option Row → Option Row → Bool → Notes
+abbrev row_notes : Maybe Row → Maybe Row → Maybe Row → Maybe Row → Bool → Notes
 row_notes a b c q u = record { heavy = place_of a; unbalanced = place_of b; unbounded = place_of c; bounded = place_of q; endless = u }
 
 module _ (rs : List Row) where
@@ -121,7 +121,7 @@ module _ (rs : List Row) where
   has_number n r e = eqb-true (fault_of r) n (filter_first (has_fault n) rs r e).1
 
   -- the worst row has the number that it was looked for by
-  decide_by_lem : (a b c : Option Row) → ((r : Row) → a ≡ some r → fault_of r ≡ 40) → ((r : Row) → b ≡ some r → fault_of r ≡ 41) → ((r : Row) → c ≡ some r → fault_of r ≡ 42)
+  decide_by_lem : (a b c : Maybe Row) → ((r : Row) → a ≡ some r → fault_of r ≡ 40) → ((r : Row) → b ≡ some r → fault_of r ≡ 41) → ((r : Row) → c ≡ some r → fault_of r ≡ 42)
       → decide_notes (row_notes a b c (first_row is_bounded_outside rs) (has_unbounded rs))
       ≡ answer_row (decide_by (or_else a (or_else b c)) rs).number (decide_by (or_else a (or_else b c)) rs).place
   unfolding decide_notes
@@ -130,7 +130,7 @@ module _ (rs : List Row) where
   decide_by_lem none none (some r) ha hb hc = ap (λ n. answer_row n (some r)) (sym (hc r refl))
   decide_by_lem none none none ha hb hc = go (first_row is_bounded_outside rs) (has_unbounded rs)
     where
-      go : (o : Option Row) (u : Bool) → cond u (answer_place 43 (place_of o) (answer_at 1 0)) (answer_at 0 0)
+      go : (o : Maybe Row) (u : Bool) → cond u (answer_place 43 (place_of o) (answer_at 1 0)) (answer_at 0 0)
           ≡ answer_row (cond u (decide_bounded o) (accept 0)).number (cond u (decide_bounded o) (accept 0)).place
       go none true = refl
       go none false = refl
@@ -140,7 +140,7 @@ module _ (rs : List Row) where
 pub summaries_decide : SummariesDecide
 unfolding decided_summaries notes_of summaries summary_of decided decision rows decide_rows
 summaries_decide D =
-    let first : (n : ℕ) (f : Summary → Spot) → ((a : Action) → f (summary_of D a) ≡ first_spot (has_fault n) (rows_of_classes D a 0 0 (classes D a)))
+    let first : (n : ℕ) (f : Summary → Option Spot) → ((a : Action) → f (summary_of D a) ≡ first_spot (has_fault n) (rows_of_classes D a 0 0 (classes D a)))
     → first_place f 0 (map (summary_of D) D.actions) ≡ place_of (first_row (has_fault n) (rows_from D 0 D.actions))
     = λ n f is. first_all (has_fault n) (λ i r. refl) D f is 0 D.actions in
     let rs = rows_from D 0 D.actions in

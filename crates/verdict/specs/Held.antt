@@ -1,6 +1,7 @@
 -- How the code holds rows, moments and answers; and a literal, so bound, as a row of bytes, with a test of which facts it is about that
 -- lists no facts. That it says what the facts of the literal over the chosen objects say is proved in proofs/Patterns. Assumes nothing.
-use Rattle.std.specs.Prelude.{◌≡◌, Bool, true, false, cond, not, ◌&&◌, List, ◌∷◌, ◌++◌, map, ℕ, ◌-◌, eqb, length, replicate}
+use Rattle.std.specs.Prelude.{◌≡◌, Bool, cond, not, ◌&&◌, List, ◌∷◌, ◌++◌, map, ℕ, ◌-◌, eqb, length, replicate, Option, is_none}
+use Rattle.std.specs.Option.{option_or}
 use Rattle.records.specs.Lists.{In}
 use Rattle.literals.specs.declared.Moment.{Moment}
 use Rattle.literals.specs.declared.Moment.TheVariants.{Start, End}
@@ -13,7 +14,6 @@ use Rattle.literals.specs.Held.{arguments_meet}
 use Rattle.classes.specs.declared.Name.{Name}
 use Rattle.verdict.specs.declared.Judgement.{Judgement}
 use Rattle.verdict.specs.declared.Spot.{Spot}
-use Rattle.verdict.specs.declared.Spot.TheVariants.{Nowhere, At}
 use Rattle.verdict.specs.declared.Summary.{Summary}
 use Rattle.verdict.specs.Decision.{Row}
 use Rattle.verdict.specs.Judged.{Answer}
@@ -32,13 +32,11 @@ abbrev pub row_for : ℕ → ℕ → Moment → Name → Bool → Row
 row_for i j m n e = record { action = i; class = j; moment = m; name = n; journey_end = e }
 
 -- the one spot, or where there is none the other
-abbrev pub spot_else : Spot → Spot → Spot
-spot_else Nowhere q = q
-spot_else (At c m) q = At c m
+abbrev pub spot_else : Option Spot → Option Spot → Option Spot
+spot_else = option_or
 
-abbrev pub is_nowhere : Spot → Bool
-is_nowhere Nowhere = true
-is_nowhere (At c m) = false
+abbrev pub is_nowhere : Option Spot → Bool
+is_nowhere = is_none
 
 -- a summary that has nothing for the decision
 abbrev pub is_silent : Summary → Bool

@@ -1,14 +1,13 @@
 -- Per action a summary, and the decision read off the list of them. Assumes nothing.
-use Rattle.std.specs.Prelude.{◌≡◌, Bool, cond, List, [], ◌∷◌, map, ℕ, suc}
-use Rattle.std.proofs.Math.Option.{Option, none, some}
+use Rattle.std.specs.Prelude.{◌≡◌, Bool, cond, List, [], ◌∷◌, map, ℕ, suc, Option, None, Some}
+use Rattle.std.specs.Option.{option_or}
+use Rattle.std.proofs.Math.Option.{Option as Maybe, none, some}
 use Rattle.records.specs.Lists.{any}
 use Rattle.literals.specs.Domain.{Action, Domain}
 use Rattle.classes.specs.Classes.{classes, name_of, journey}
 use Rattle.literals.specs.Matching.{moment_number}
 use Rattle.verdict.specs.declared.Spot.{Spot}
-use Rattle.verdict.specs.declared.Spot.TheVariants.{Nowhere, At}
 use Rattle.verdict.specs.declared.Place.{Place}
-use Rattle.verdict.specs.declared.Place.TheVariants.{Missing, Found}
 use Rattle.verdict.specs.declared.Summary.{Summary}
 use Rattle.verdict.specs.declared.Notes.{Notes}
 use Rattle.verdict.specs.Decision.{Row, rows_of_classes, is_unbounded, is_bounded_outside, first_row, has_fault}
@@ -17,12 +16,12 @@ use Rattle.verdict.specs.Judged.{Answer, answer_at, decided}
 -- ---- the summary of an action
 
 -- where a row stands within its action: "class, moment"
-abbrev pub spot_of : Option Row → Spot
-spot_of none = Nowhere
-spot_of (some r) = At r.class r.moment
+abbrev pub spot_of : Maybe Row → Option Spot
+spot_of none = None
+spot_of (some r) = Some (record { class = r.class; moment = r.moment })
 
 -- the first one that passes a test
-abbrev pub first_spot : (Row → Bool) → List Row → Spot
+abbrev pub first_spot : (Row → Bool) → List Row → Option Spot
 first_spot p rs = spot_of (first_row p rs)
 
 abbrev pub has_unbounded : List Row → Bool
@@ -53,18 +52,17 @@ summaries D = map (summary_of D) D.actions
 -- ---- the decision from summaries
 
 -- a spot in the action i
-abbrev pub place_in : ℕ → Spot → Place
-place_in i Nowhere = Missing
-place_in i (At c m) = Found i c m
+abbrev pub place_in : ℕ → Option Spot → Option Place
+place_in i None = None
+place_in i (Some s) = Some (record { action = i; class = s.class; moment = s.moment })
 
 -- the one, or where there is none the other
-abbrev pub place_else : Place → Place → Place
-place_else Missing q = q
-place_else (Found i c m) q = Found i c m
+abbrev pub place_else : Option Place → Option Place → Option Place
+place_else = option_or
 
 -- the first place of one sort, of actions numbered from i on
-abbrev pub first_place : (Summary → Spot) → ℕ → List Summary → Place
-first_place f i [] = Missing
+abbrev pub first_place : (Summary → Option Spot) → ℕ → List Summary → Option Place
+first_place f i [] = None
 first_place f i (s ∷ ss) = place_else (place_in i (f s)) (first_place f (suc i) ss)
 
 -- of each sort the first place of all, and whether some moment is unbounded
@@ -78,10 +76,14 @@ notes_of ss =
       endless = any (λ (s : Summary). s.endless) ss;
     }
 
+-- the number at a place
+abbrev pub answer_in : ℕ → Place → Answer
+answer_in n p = record { number = n; first = p.action; second = p.class; third = moment_number p.moment }
+
 -- the number, at a place where there is one; else another answer
-abbrev pub answer_place : ℕ → Place → Answer → Answer
-answer_place n Missing a = a
-answer_place n (Found i c m) a = record { number = n; first = i; second = c; third = moment_number m }
+abbrev pub answer_place : ℕ → Option Place → Answer → Answer
+answer_place n None a = a
+answer_place n (Some p) a = answer_in n p
 
 -- "Else, if some moment is unbounded, the first bounded one that isn't a journey's end: 43. Else accepted: 1 if some moment is unbounded, 0
 -- if none."

@@ -4,15 +4,15 @@
 ghost use Rattle.std.specs.Prelude.{◌≡◌, List, [], ◌∷◌, ◌++◌, ℕ, length};
 ghost use Rattle.verdict.specs.declared.Summary.{Summary};
 ghost use Rattle.verdict.specs.Decision.{Row};
-ghost use Rattle.verdict.specs.Judged.{Answer, answer_at};
-ghost use Rattle.verdict.specs.Summaries.{summary_rows, place_in, place_else, notes_of, answer_place, faultless, decide_notes};
-ghost use Rattle.verdict.specs.Held.{judgement_of, row_for, spot_else, is_nowhere, is_silent};
+ghost use Rattle.verdict.specs.Judged.{answer_at};
+ghost use Rattle.verdict.specs.Summaries.{summary_rows, place_in, place_else, notes_of, answer_in, faultless, decide_notes};
+ghost use Rattle.verdict.specs.Held.{judgement_of, moment_by, row_for, is_silent};
 
 use classes::Name;
-use literals::{Moment, moment_number};
+use literals::Moment;
 
-// An answer: the number and three places.
-#[derive(Clone, Copy)]
+// An answer: the number and three places, as numbers, since so the call of C answers.
+#[derive(Clone, Copy, PartialEq, Eq, Debug)]
 pub struct Judgement {
     pub number: u64,
     pub first: u64,
@@ -20,76 +20,77 @@ pub struct Judgement {
     pub third: u64,
 }
 
-// A moment of a class of one action, or none.
-#[derive(Clone, Copy)]
-pub enum Spot {
-    Nowhere,
-    At { class: u8, moment: Moment },
+// A moment of a class of one action.
+#[derive(Clone, Copy, PartialEq, Eq, Debug)]
+pub struct Spot {
+    pub class: u8,
+    pub moment: Moment,
 }
 
 // What the decision needs of one action: its first moments that are refused by 40, by 41 and by 42, its first bounded one outside a
 // journey's end, and whether one is unbounded, at a journey's end too.
-#[derive(Clone, Copy)]
+#[derive(Clone, Copy, PartialEq, Eq, Debug)]
 pub struct Summary {
-    pub heavy: Spot,
-    pub unbalanced: Spot,
-    pub unbounded: Spot,
-    pub bounded: Spot,
+    pub heavy: Option<Spot>,
+    pub unbalanced: Option<Spot>,
+    pub unbounded: Option<Spot>,
+    pub bounded: Option<Spot>,
     pub endless: bool,
 }
 
-// A moment of a class of an action, or none.
-#[derive(Clone, Copy)]
-pub enum Place {
-    Missing,
-    Found {
-        action: u8,
-        class: u8,
-        moment: Moment,
-    },
+// A moment of a class of an action.
+#[derive(Clone, Copy, PartialEq, Eq, Debug)]
+pub struct Place {
+    pub action: u8,
+    pub class: u8,
+    pub moment: Moment,
 }
 
 // What the decision is made of: of the summaries of all actions the first place of each sort, and whether a moment is unbounded.
-#[derive(Clone, Copy)]
+#[derive(Clone, Copy, PartialEq, Eq, Debug)]
 pub struct Notes {
-    pub heavy: Place,
-    pub unbalanced: Place,
-    pub unbounded: Place,
-    pub bounded: Place,
+    pub heavy: Option<Place>,
+    pub unbalanced: Option<Place>,
+    pub unbounded: Option<Place>,
+    pub bounded: Option<Place>,
     pub endless: bool,
 }
 
-impl Spot {
-    // This spot, or where it is none the other.
-    fn or(self, other: Spot) -> Spot
-        ensures { result ≡ spot_else self other }
+impl Judgement {
+    // The number, and a first place alone.
+    pub fn at(number: u64, first: u64) -> Judgement
+        ensures { result ≡ judgement_of (answer_at number first) }
     {
-        match self {
-            Spot::At { .. } => self,
-            Spot::Nowhere => other,
+        Judgement {
+            number,
+            first,
+            second: 0,
+            third: 0,
         }
     }
 
-    fn is_nowhere(self) -> bool
-        ensures { result ≡ is_nowhere self }
+    // The moment of the place that it names.
+    pub fn moment(self) -> Moment
+        ensures { result ≡ moment_by self.third }
     {
-        match self {
-            Spot::At { .. } => false,
-            Spot::Nowhere => true,
+        match self.third {
+            0 => Moment::Start,
+            _ => Moment::End,
         }
     }
 }
 
 impl Summary {
     // Of no moment yet.
+    #[tactic(auto, unfolding(crate::specs::Summaries::summary_rows))]
     pub fn new() -> Summary
         ensures { result ≡ summary_rows [] }
     {
         Summary {
-            heavy: Spot::Nowhere,
-            unbalanced: Spot::Nowhere,
-            unbounded: Spot::Nowhere,
-            bounded: Spot::Nowhere,
+            heavy: None,
+            unbalanced: None,
+            unbounded: None,
+            bounded: None,
             endless: false,
         }
     }
@@ -99,143 +100,82 @@ impl Summary {
         ensures { (rs : List Row) (i : ℕ) → self ≡ summary_rows rs
             → result ≡ summary_rows (rs ++ (row_for i class moment name ended ∷ [])) }
     {
-        let here = Spot::At { class, moment };
-        let heavy = self.heavy;
-        let unbalanced = self.unbalanced;
-        let unbounded = self.unbounded;
-        let bounded = self.bounded;
+        let here = Some(Spot { class, moment });
         match name {
             Name::Heavy => Summary {
-                heavy: heavy.or(here),
-                unbalanced,
-                unbounded,
-                bounded,
-                endless: self.endless,
+                heavy: self.heavy.or(here),
+                ..self
             },
             Name::Unbalanced => Summary {
-                heavy,
-                unbalanced: unbalanced.or(here),
-                unbounded,
-                bounded,
-                endless: self.endless,
+                unbalanced: self.unbalanced.or(here),
+                ..self
             },
-            Name::Unbounded => {
-                if ended {
-                    let mut next = self;
-                    next.endless = true;
-                    return next;
-                }
-                Summary {
-                    heavy,
-                    unbalanced,
-                    unbounded: unbounded.or(here),
-                    bounded,
-                    endless: true,
-                }
-            }
-            Name::Bounded => {
-                if ended {
-                    return self;
-                }
-                Summary {
-                    heavy,
-                    unbalanced,
-                    unbounded,
-                    bounded: bounded.or(here),
-                    endless: self.endless,
-                }
-            }
-            Name::Unreachable => self,
-            Name::Irrelevant => self,
-            Name::Balanced => self,
+            Name::Unbounded if ended => Summary {
+                endless: true,
+                ..self
+            },
+            Name::Unbounded => Summary {
+                unbounded: self.unbounded.or(here),
+                endless: true,
+                ..self
+            },
+            Name::Bounded if ended => self,
+            Name::Bounded => Summary {
+                bounded: self.bounded.or(here),
+                ..self
+            },
+            Name::Unreachable | Name::Irrelevant | Name::Balanced => self,
         }
     }
-}
 
-impl Summary {
     // Whether it has nothing for the decision, as of most actions.
     fn is_silent(self) -> bool
         ensures { result ≡ is_silent self }
     {
-        let heavy = self.heavy;
-        let unbalanced = self.unbalanced;
-        let unbounded = self.unbounded;
-        let bounded = self.bounded;
-        if self.endless {
-            return false;
-        }
-        if !heavy.is_nowhere() {
-            return false;
-        }
-        if !unbalanced.is_nowhere() {
-            return false;
-        }
-        if !unbounded.is_nowhere() {
-            return false;
-        }
-        bounded.is_nowhere()
+        !self.endless
+            && self.heavy.is_none()
+            && self.unbalanced.is_none()
+            && self.unbounded.is_none()
+            && self.bounded.is_none()
     }
 }
 
 impl Place {
-    // This place, or where it is none the spot in the action i.
-    fn or_in(self, i: u8, spot: Spot) -> Place
-        ensures { result ≡ place_else self (place_in i spot) }
+    // The number at this place.
+    fn refuse(self, number: u64) -> Judgement
+        ensures { result ≡ judgement_of (answer_in number self) }
     {
-        match self {
-            Place::Found { .. } => self,
-            Place::Missing => match spot {
-                Spot::At { class, moment } => Place::Found {
-                    action: i,
-                    class,
-                    moment,
-                },
-                Spot::Nowhere => Place::Missing,
-            },
-        }
-    }
-
-    // The number at this place, or where it is none the other answer.
-    fn refuse(self, number: u64, other: Judgement) -> Judgement
-        ensures { (a : Answer) → other ≡ judgement_of a → result ≡ judgement_of (answer_place number self a) }
-    {
-        match self {
-            Place::Found {
-                action,
-                class,
-                moment,
-            } => Judgement {
-                number,
-                first: action as u64,
-                second: class as u64,
-                third: moment_number(moment) as u64,
-            },
-            Place::Missing => other,
+        Judgement {
+            number,
+            first: u64::from(self.action),
+            second: u64::from(self.class),
+            third: u64::from(u8::from(self.moment)),
         }
     }
 }
 
-fn accept(number: u64) -> Judgement
-    ensures { result ≡ judgement_of (answer_at number 0) }
+// This place, or where it is none the spot in the action i.
+fn or_in(place: Option<Place>, i: u8, spot: Option<Spot>) -> Option<Place>
+    ensures { result ≡ place_else place (place_in i spot) }
 {
-    Judgement {
-        number,
-        first: 0,
-        second: 0,
-        third: 0,
-    }
+    place.or(spot.map(|s| Place {
+        action: i,
+        class: s.class,
+        moment: s.moment,
+    }))
 }
 
 impl Notes {
     // Of no action yet.
+    #[tactic(auto, unfolding(crate::specs::Summaries::notes_of))]
     pub fn new() -> Notes
         ensures { result ≡ notes_of [] }
     {
         Notes {
-            heavy: Place::Missing,
-            unbalanced: Place::Missing,
-            unbounded: Place::Missing,
-            bounded: Place::Missing,
+            heavy: None,
+            unbalanced: None,
+            unbounded: None,
+            bounded: None,
             endless: false,
         }
     }
@@ -244,15 +184,11 @@ impl Notes {
     fn join(self, i: u8, summary: Summary) -> Notes
         ensures { (ss : List Summary) → i ≡ length ss → self ≡ notes_of ss → result ≡ notes_of (ss ++ (summary ∷ [])) }
     {
-        let heavy = self.heavy;
-        let unbalanced = self.unbalanced;
-        let unbounded = self.unbounded;
-        let bounded = self.bounded;
         Notes {
-            heavy: heavy.or_in(i, summary.heavy),
-            unbalanced: unbalanced.or_in(i, summary.unbalanced),
-            unbounded: unbounded.or_in(i, summary.unbounded),
-            bounded: bounded.or_in(i, summary.bounded),
+            heavy: or_in(self.heavy, i, summary.heavy),
+            unbalanced: or_in(self.unbalanced, i, summary.unbalanced),
+            unbounded: or_in(self.unbounded, i, summary.unbounded),
+            bounded: or_in(self.bounded, i, summary.bounded),
             endless: self.endless || summary.endless,
         }
     }
@@ -271,23 +207,25 @@ impl Notes {
     fn decide_faultless(self) -> Judgement
         ensures { result ≡ judgement_of (faultless self) }
     {
-        if self.endless {
-            let bounded = self.bounded;
-            return bounded.refuse(43, accept(1));
+        if !self.endless {
+            return Judgement::at(0, 0);
         }
-        accept(0)
+        match self.bounded {
+            Some(place) => place.refuse(43),
+            None => Judgement::at(1, 0),
+        }
     }
 
     // The decision: 40 before 41 before 42.
+    #[tactic(auto, unfolding(crate::specs::Summaries::decide_notes))]
     pub fn decide(self) -> Judgement
         ensures { result ≡ judgement_of (decide_notes self) }
     {
-        let heavy = self.heavy;
-        let unbalanced = self.unbalanced;
-        let unbounded = self.unbounded;
-        heavy.refuse(
-            40,
-            unbalanced.refuse(41, unbounded.refuse(42, self.decide_faultless())),
-        )
+        match (self.heavy, self.unbalanced, self.unbounded) {
+            (Some(place), _, _) => place.refuse(40),
+            (None, Some(place), _) => place.refuse(41),
+            (None, None, Some(place)) => place.refuse(42),
+            (None, None, None) => self.decide_faultless(),
+        }
     }
 }

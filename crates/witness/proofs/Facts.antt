@@ -8,16 +8,17 @@ use Prim.Native.Nat.{ℕ, zero, suc, ◌+◌, ◌*◌, ◌≤◌, ◌<◌}
 use native.Mathlib.Numerals.{add-one}
 use native.Mathlib.Omega.{arith}
 use lib.ListN.{length, get_or, take, drop, length-append, length-drop}
-use lib.Seq.{get_or-drop, paste, paste-zero}
-use borrow.Author.Tests.{eq-eqb, ne_eqb}
+use lib.Seq.{length-take-le, paste}
+use Rattle.std.proofs.lemmas.List.{take-append-drop}
+use borrow.Author.Tests.{eq-eqb}
 use Rattle.records.specs.Lists.{In, add_if, keep_if, count_by}
 use Rattle.records.specs.Memory.{over}
 use Rattle.records.proofs.Lists.{in_keep_if, count_append, flat_map_append}
 use Rattle.records.proofs.Memory.{length_over, over_paste}
 use Rattle.literals.specs.Held.{rows_in, bytes_from, arity_in}
-use Rattle.literals.proofs.Rows.{rows_last, rows_whole, length_part, part_at}
+use Rattle.literals.proofs.Rows.{rows_last, rows_whole}
 use Rattle.literals.proofs.Tables.{length_flat}
-use Rattle.literals.proofs.Heads.{length_bytes, bytes_more}
+use Rattle.literals.proofs.Heads.{length_bytes, bytes_front, bytes_more}
 use Rattle.literals.proofs.KeyRows.{length_rows}
 use Rattle.witness.specs.Held.{first_usages, select_by, is_condition, condition_bytes, condition_of, condition_if, conditions_of}
 
@@ -29,17 +30,11 @@ first_more l j =
     ap (λ (n : ℕ). first_usages n l) (add-one j) ∙ bytes_more l 0 j ∙ ap (λ (i : ℕ). first_usages j l ++ (get_or l i 0 ∷ [])) e
 
 module _ (p : ℕ → Bool) (l : List ℕ) where
-  count_more : (j : ℕ) {b : Bool} → p (get_or l j 0) ≡ b → count_by p (first_usages (j + 1) l) ≡ count_by p (first_usages j l) + add_if b 0
+  pub count_more : (j : ℕ) {b : Bool} → p (get_or l j 0) ≡ b → count_by p (first_usages (j + 1) l) ≡ count_by p (first_usages j l) + add_if b 0
   count_more j t =
       ap (count_by p) (first_more l j)
       ∙ count_append p (first_usages j l) (get_or l j 0 ∷ [])
       ∙ ap (λ (b : Bool). count_by p (first_usages j l) + add_if b 0) t
-
-  pub count_hit : (j : ℕ) → p (get_or l j 0) ≡ true → count_by p (first_usages (j + 1) l) ≡ count_by p (first_usages j l) + 1
-  count_hit j t = count_more j t
-
-  pub count_miss : (j : ℕ) → p (get_or l j 0) ≡ false → count_by p (first_usages (j + 1) l) ≡ count_by p (first_usages j l)
-  count_miss j t = let e = count_more j t in omega arith
 
   count_from_lem : (k j n : ℕ) → j ≤ n → count_by p (bytes_from l k j) ≤ count_by p (bytes_from l k n)
   count_from_lem k zero n h = omega arith
@@ -53,6 +48,12 @@ module _ (p : ℕ → Bool) (l : List ℕ) where
 
   pub count_le : (j n : ℕ) → j ≤ n → count_by p (first_usages j l) ≤ count_by p (first_usages n l)
   count_le j n h = count_from_lem 0 j n h
+
+-- they are the first bytes of a memory that has so many
+pub first_taken : (n : ℕ) (l : List ℕ) → n ≤ length l → first_usages n l ≡ take n l
+first_taken n l h =
+    let k = length-take-le n l h in
+    ap₂ first_usages (sym k) (sym (take-append-drop n l)) ∙ bytes_front (take n l) (drop n l)
 
 -- ---- elements whose numbers pass
 
@@ -89,49 +90,8 @@ module _ {A B : Type 0} (p : A → Bool) where
 
 -- ---- a condition's fact
 
-module _ (arity : ℕ) (t : List ℕ) (at : ℕ) (h : at + 8 ≤ length t) where
-  pub condition_first : (i : ℕ) → i ≡ 0 → get_or t (at + 1) 0 ≡ get_or (condition_bytes arity (take 8 (drop at t))) i 0
-  condition_first i e = sym (part_at 8 t at h 1 (omega arith)) ∙ ap (λ (i : ℕ). get_or (condition_bytes arity (take 8 (drop at t))) i 0) (sym e)
-
-  pub condition_behind : (i : ℕ) → i < 8 → (i ≡ 0 → ⊥) → (i ≡ 1 → ⊥) → get_or t (at + i) 0 ≡ get_or (condition_bytes arity (take 8 (drop at t))) i 0
-  condition_behind zero l n o = absurd (n refl)
-  condition_behind (suc zero) l n o = absurd (o refl)
-  condition_behind (suc (suc k)) l n o =
-      let e : suc (suc k) ≡ 2 + k = omega arith in
-      ap (λ (i : ℕ). get_or t (at + i) 0) e ∙ sym (get_or-drop 2 (take 8 (drop at t)) k 0 ∙ part_at 8 t at h (2 + k) (omega arith))
-
 length_condition : (arity : ℕ) (row : List ℕ) → length row ≡ 8 → length (condition_bytes arity row) ≡ 8
 length_condition arity row e = let d = length-drop 2 row in omega arith
-
-pub length_condition_at : (arity : ℕ) (t : List ℕ) (at : ℕ) → at + 8 ≤ length t → length (condition_bytes arity (take 8 (drop at t))) ≡ 8
-length_condition_at arity t at h = length_condition arity (take 8 (drop at t)) (length_part 8 t at h)
-
--- ---- it where the literal is a true condition
-
-module _ (head t d : List ℕ) (at row k : ℕ) where
-  if_not : (k ≡ 1 → ⊥) → condition_if head k (take 8 (drop row t)) ≡ []
-  if_not n = rw (ne_eqb k 1 n)
-
-  pub left_out : (k ≡ 1 → ⊥) → d ≡ paste d at (condition_if head k (take 8 (drop row t))) (length (condition_if head k (take 8 (drop row t))))
-  left_out n = paste-zero d at [] ∙ sym (ap (λ (s : List ℕ). paste d at s (length s)) (if_not n))
-
-  pub left_behind : (k ≡ 1 → ⊥) → at ≡ at + length (condition_if head k (take 8 (drop row t)))
-  left_behind n = let e = ap length (if_not n) in omega arith
-
-  module _ (arity : ℕ) (h : row + 8 ≤ length t) (e : k ≡ 1) (f : arity ≡ arity_in head (get_or t (row + 1) 0)) where
-    if_so : condition_if head k (take 8 (drop row t)) ≡ condition_bytes arity (take 8 (drop row t))
-    if_so =
-        rw (eq-eqb k 1 e) (ap (λ (n : ℕ). condition_bytes n (take 8 (drop row t))) (ap (arity_in head) (part_at 8 t row h 1 (omega arith)) ∙ sym f))
-
-    pub put_in : (out : List ℕ) → out ≡ paste d at (condition_bytes arity (take 8 (drop row t))) 8
-        → out ≡ paste d at (condition_if head k (take 8 (drop row t))) (length (condition_if head k (take 8 (drop row t))))
-    put_in out o =
-        o
-        ∙ ap (paste d at (condition_bytes arity (take 8 (drop row t)))) (sym (length_condition_at arity t row h))
-        ∙ sym (ap (λ (s : List ℕ). paste d at s (length s)) if_so)
-
-    pub put_behind : at + 8 ≡ at + length (condition_if head k (take 8 (drop row t)))
-    put_behind = let g = ap length if_so in let l = length_condition_at arity t row h in omega arith
 
 -- ---- those of all true conditions
 
@@ -180,7 +140,7 @@ module _ (head ks t : List ℕ) where
       pub conditions_room : get_or ks j 0 ≡ 1 → at + 8 ≤ length out
       conditions_room e =
           let l = length_conditions j (omega arith) in
-          let k = count_hit is_condition ks j (eq-eqb (get_or ks j 0) 1 e) in
+          let k = count_more is_condition ks j (eq-eqb (get_or ks j 0) 1 e) in
           let c = count_le is_condition ks (j + 1) n (omega arith) in
           let d = conditions_length in
           omega arith

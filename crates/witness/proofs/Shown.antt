@@ -1,14 +1,16 @@
 -- The witness that the code writes is the definition's: from the rows of literals, components and classes to facts. Assumes nothing.
+use Rattle.std.specs.Prelude.{Option, Some}
 use mathlib.Core.Path.{◌≡◌, refl, sym, ap, ap₂, ◌∙◌}
 use mathlib.Core.Bool.{Bool, true, false, ◌&&◌, not, cond, true≢false}
 use mathlib.Core.List.Memᴰ
 use mathlib.Core.List.{List, [], ◌∷◌, ◌++◌, map, flat_map, append-nil, append_assoc}
 use Prim.Native.Nat.{ℕ, zero, suc, ◌+◌, ◌-◌, ◌*◌, ◌≤◌, ◌<◌}
+use native.Mathlib.Numerals.{add-one}
 use native.Mathlib.Omega.{arith}
 use lib.Dec.{eqb, leb}
 use lib.ListN.{length, get_or, take, drop, replicate, length-append, length-map, length-drop}
 use lib.Seq.{take_all, length-take-le, paste}
-use borrow.Author.Tests.{le-leb, lt-leb, eq-eqb, ne_eqb}
+use borrow.Author.Tests.{lt-ltb, le-leb, lt-leb}
 use Rattle.records.specs.Lists.{In, keep_if, filter_by, count_by, all, position, numbers_from}
 use Rattle.records.specs.Memory.{over}
 use Rattle.records.proofs.Lists.{get_d_in, all_of}
@@ -30,18 +32,20 @@ use Rattle.literals.proofs.Held.{keys_few as keys-most}
 use Rattle.literals.proofs.Heads.{bytes_front, action_in}
 use Rattle.literals.specs.declared.Moment.{Moment}
 use Rattle.literals.specs.declared.Moment.TheVariants.{Start, End}
+use Rattle.literals.specs.contracts.Moment.{the_type}
+use denote.Enum.Bare.{sameb}
 use Rattle.classes.specs.declared.Name.{Name}
 use Rattle.classes.specs.declared.Name.TheVariants.{Unreachable, Irrelevant, Heavy, Balanced, Unbalanced, Bounded as bounded, Unbounded}
 use Rattle.literals.specs.Matching.{required}
 use Rattle.classes.specs.Classes.{classes, in_class, reach_in, lasts_in, changed_by, covered, excluding, name_number, name_by, name_of}
-use Rattle.classes.specs.Held.{ActionOf, tuple_row, usages_by, asked_usages, uncovered_at}
+use Rattle.classes.specs.Held.{ActionOf, tuple_row, usages_by, asked_usages, place_below, uncovered_at}
 use Rattle.classes.proofs.Rows.{no_literal}
 use Rattle.classes.proofs.Usages.{length_usages, required_at}
 use Rattle.classes.proofs.Members.{classes_few}
 use Rattle.verdict.specs.Binding.{value_of, bind, bind_tuple, same_numbers, spare}
 use Rattle.verdict.specs.Decision.{fault_by, instance_fact, first_uncovered, witness_by, witness_at, shown_at}
 use Rattle.verdict.specs.Judged.{object_numbers, fact_bytes}
-use Rattle.verdict.specs.Held.{moment_by, fact_row}
+use Rattle.verdict.specs.Held.{fact_row}
 use Rattle.witness.specs.Held.{fits_in, shown_in, condition_facts, RefusedAt, ShownAt, first_usages, select_by, is_condition, condition_of}
 use Rattle.witness.specs.Held.{conditions_of}
 use Rattle.store.specs.Held.{instance_bytes_in}
@@ -361,6 +365,9 @@ module _ {D : Domain} {a : Action} {head : List ℕ} {m : Moment} {rows usages :
       pub open_inside : uncovered_at D a (get_or (classes D a) j []) m < length D.template
       open_inside = open_listed D a (get_or (classes D a) j []) m number R.journey_end R.fault t
 
+      pub open_found : {o : Option ℕ} → o ≡ place_below (length D.template) (uncovered_at D a (get_or (classes D a) j []) m) → o ≡ Some (uncovered_at D a (get_or (classes D a) j []) m)
+      open_found e = e ∙ rw (lt-ltb (uncovered_at D a (get_or (classes D a) j []) m) (length D.template) open_inside)
+
       pub open_short : length out < 8 * k + 8 → ShownAt D a j m out out false
       open_short h = shown_as is_facts (too_short (condition_facts a m ++ (shown ∷ [])) out (let c = one_more in omega arith))
 
@@ -430,7 +437,7 @@ given {D} {a} m {rows} {usages} {n} A l c =
       action = A;
       usages_are = c D a _ A refl;
       count = (let k = sym (ap length A.literals) ∙ l in let g = length_literals a.lits (A.says.bounded.arguments a A.listed) in omega arith);
-      selected = selected_by numbers_from (λ i. refl) (λ i n. refl) a m no_literal (required_at a m Positive);
+      selected = selected_by numbers_from (λ i. refl) (λ i n. rw (add-one i)) a m no_literal (required_at a m Positive);
     }
 
 -- a class of an action has a number below 64
@@ -440,26 +447,16 @@ class_few {D} H i j h g =
     let s = H.says.bounded.sizes (action D i) (action_in H i h) in
     omega arith
 
--- ---- a moment by its number
+-- ---- whether a witness is written at a moment, by the test of it
 
--- whether a witness is written there
-module _ (D : Domain) (a : Action) (x : List Variable) (moment : ℕ) where
-  pub start_is_shown : moment ≡ 0 → true ≡ shown_at D a x (moment_by moment)
-  start_is_shown h = rw (eq-eqb moment 0 h)
+module _ (D : Domain) (a : Action) (x : List Variable) where
+  pub start_is_shown : (m : Moment) → sameb the_type m Start ≡ true → true ≡ shown_at D a x m
+  start_is_shown Start e = refl
+  start_is_shown End e = absurd (true≢false (sym e))
 
-  pub end_is_shown : (moment ≡ 0 → ⊥) → {r : Bool} → r ≡ lasts_in D a x → not r ≡ shown_at D a x (moment_by moment)
-  end_is_shown h e = rw (ne_eqb moment 0 h) (ap not e)
-
--- what is shown of a moment that is refused
-abbrev pub ShowsAt : Domain → ℕ → ℕ → ℕ → List ℕ → List ℕ → Bool → Moment → Type 0
-ShowsAt D i j number old new r m = RefusedAt D (action D i) j m number → ShownAt D (action D i) j m old new r
-
-module _ (D : Domain) (i j number : ℕ) (old new : List ℕ) (r : Bool) (moment : ℕ) where
-  pub shown_start : moment ≡ 0 → ShowsAt D i j number old new r Start → ShowsAt D i j number old new r (moment_by moment)
-  shown_start h s = rw (eq-eqb moment 0 h) s
-
-  pub shown_end : (moment ≡ 0 → ⊥) → ShowsAt D i j number old new r End → ShowsAt D i j number old new r (moment_by moment)
-  shown_end h s = rw (ne_eqb moment 0 h) s
+  pub end_is_shown : (m : Moment) → sameb the_type m Start ≡ false → {r : Bool} → r ≡ lasts_in D a x → not r ≡ shown_at D a x m
+  end_is_shown Start f e = absurd (true≢false f)
+  end_is_shown End f e = ap not e
 
 -- the rows of an action, and as many numbers
 pub parts_alike : (table numbers : List ℕ) (span : Span) → SpanFits (length table) span → length table ≤ 8 * length numbers

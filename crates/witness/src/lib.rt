@@ -9,9 +9,8 @@ ghost use Rattle.literals.specs.Domain.{object, Domain, Action, action};
 ghost use Rattle.literals.specs.Decode.{max_literals};
 ghost use Rattle.literals.specs.Held.{rows_in, Held};
 ghost use Rattle.classes.specs.Classes.{classes};
-ghost use Rattle.classes.specs.Held.{ActionOf, class_numbers, numbers_of, uncovered_at};
+ghost use Rattle.classes.specs.Held.{ActionOf, class_numbers, numbers_of, place_below, uncovered_at};
 ghost use Rattle.verdict.specs.Claims.{well_formed};
-ghost use Rattle.verdict.specs.Held.{moment_by};
 ghost use Rattle.verdict.specs.Decision.{shown_at};
 ghost use Rattle.witness.specs.Held.{RefusedAt, ShownAt, first_usages, is_condition, condition_bytes, condition_if, conditions_of};
 
@@ -29,13 +28,7 @@ fn count_conditions(usages: &Marks, n: usize) -> usize
     ensures number { result ≡ count_by is_condition (first_usages n usages.now) }
     ensures few { result ≤ max_literals }
 {
-    let mut k: usize = 0;
-    for j in 0..n {
-        if usages[j] == 1 {
-            k += 1;
-        }
-    }
-    k
+    usages[..n].iter().filter(|usage| **usage == 1).count()
 }
 
 // "Variable i is object i": the one function that makes an object of a variable.
@@ -45,51 +38,42 @@ fn witness_object(v: Variable) -> Object
     Object(v.0)
 }
 
-// A byte of the fact of the literal's row at an offset. (The FF that fill a row stay FF.)
-fn condition_byte(rows: &[u8], row: usize, arity: u8, i: usize) -> u8
-    requires row { row + 8 ≤ length rows.now }
-    requires place { i < 8 }
-    ensures { result ≡ get_or (condition_bytes arity (take 8 (drop row rows.now))) i 0 }
+// The fact of a literal's row. (The FF that fill a row stay FF.)
+fn condition_bytes(row: &[u8], arity: u8) -> [u8; 8]
+    requires { length row.now ≡ 8 }
+    ensures { result ≡ condition_bytes arity row.now }
 {
-    if i == 0 {
-        return rows[row + 1];
-    }
-    if i == 1 {
-        return arity;
-    }
-    let v = rows[row + i];
-    let o = witness_object(Variable(v));
-    o.0
+    let object = |v: u8| witness_object(Variable(v)).0;
+    [
+        row[1],
+        arity,
+        object(row[2]),
+        object(row[3]),
+        object(row[4]),
+        object(row[5]),
+        object(row[6]),
+        object(row[7]),
+    ]
 }
 
-// Writes the fact of the literal's row at an offset.
-fn put_condition(out: &mut [u8], at: usize, rows: &[u8], row: usize, arity: u8)
-    requires room { at + 8 ≤ length out.old }
-    requires row { row + 8 ≤ length rows.now }
-    ensures { out.new ≡ paste out.old at (condition_bytes arity (take 8 (drop row rows.now))) 8 }
-{
-    for i in 0..8 {
-        out[at + i] = condition_byte(rows, row, arity, i);
-    }
-}
-
-// Writes it where the literal is a true condition; answers the offset behind it.
-fn put_if(out: &mut [u8], at: usize, head: &Head, rows: &[u8], row: usize, usage: u8) -> usize
-    requires rowed { row + 8 ≤ length rows.now }
+// Writes the fact of a literal's row where it is a true condition; answers the offset behind it.
+fn put_if(out: &mut [u8], at: usize, head: &Head, row: &[u8], usage: u8) -> usize
+    requires row { length row.now ≡ 8 }
     requires room { usage ≡ 1 → at + 8 ≤ length out.old }
     ensures written { out.new
-        ≡ paste out.old at (condition_if head.now usage (take 8 (drop row rows.now)))
-        (length (condition_if head.now usage (take 8 (drop row rows.now)))) }
-    ensures behind { result ≡ at + length (condition_if head.now usage (take 8 (drop row rows.now))) }
+        ≡ paste out.old at (condition_if head.now usage row.now) (length (condition_if head.now usage row.now)) }
+    ensures behind { result ≡ at + length (condition_if head.now usage row.now) }
 {
-    if usage == 1 {
-        put_condition(out, at, rows, row, arity_of(head, rows[row + 1]));
-        return at + 8;
+    if usage != 1 {
+        return at;
     }
-    at
+    let fact = condition_bytes(row, arity_of(head, row[1]));
+    out[at..at + 8].copy_from_slice(&fact);
+    at + 8
 }
 
-// The facts of the true conditions, in file order.
+// The facts of the true conditions, in file order. (By an index, since the rows of 8 bytes and their usages stand side by side, and n may
+// be less than the usages.)
 fn put_conditions(out: &mut [u8], head: &Head, rows: &[u8], usages: &Marks, n: usize)
     requires few { n ≤ max_literals }
     requires rowed { 8 * n ≤ length rows.now }
@@ -100,7 +84,7 @@ fn put_conditions(out: &mut [u8], head: &Head, rows: &[u8], usages: &Marks, n: u
 {
     let mut at: usize = 0;
     for j in 0..n {
-        at = put_if(out, at, head, rows, 8 * j, usages[j]);
+        at = put_if(out, at, head, &rows[8 * j..8 * j + 8], usages[j]);
     }
 }
 
@@ -122,13 +106,13 @@ fn put_plain(head: &Head, rows: &[u8], n: usize, m: Moment, out: &mut [u8]) -> b
     true
 }
 
-// The first component that a class leaves uncovered at a moment, or the number of components.
-fn open_component(head: &Head, rows: &[u8], numbers: &[u8], m: Moment, class: u8) -> usize
+// The first component that a class leaves uncovered at a moment, if there is one.
+fn open_component(head: &Head, rows: &[u8], numbers: &[u8], m: Moment, class: u8) -> Option<usize>
     requires few { length numbers.now ≤ max_literals }
     requires rowed { length rows.now ≡ 8 * length numbers.now }
     ensures { (D : Domain) (a : Action) → ActionOf D a head.now rows.now
         → numbers.now ≡ class_numbers D a → class < length (classes D a)
-        → result ≡ uncovered_at D a (get_or (classes D a) class []) m }
+        → result ≡ place_below (length D.template) (uncovered_at D a (get_or (classes D a) class []) m) }
 {
     let mut usages = [0u8; MAX_LITERALS];
     usages_at(false, rows, numbers.len(), m, &mut usages);
@@ -161,14 +145,15 @@ fn put_open(
     if out.len() < 8 * k + 8 {
         return false;
     }
-    let u = open_component(head, rows, numbers, m, j as u8);
-    if components_in(head) <= u {
-        return false;
+    match open_component(head, rows, numbers, m, j as u8) {
+        Some(u) if u < components_in(head) => {
+            let tuple = class_tuple(head, rows, numbers, j as u8);
+            put_conditions(out, head, rows, &asked, n);
+            put_instance(out, 8 * k, head, u, &tuple, spare);
+            true
+        }
+        _ => false,
     }
-    let tuple = class_tuple(head, rows, numbers, j as u8);
-    put_conditions(out, head, rows, &asked, n);
-    put_instance(out, 8 * k, head, u, &tuple, spare);
-    true
 }
 
 // The witness of a moment that is refused by `number`.
@@ -189,6 +174,7 @@ fn put_witness(
         → numbers.now ≡ class_numbers D a
         → spare.0 ≡ a.vars → RefusedAt D a j m number → ShownAt D a j m out.old out.new result }
 {
+    // A number, and no enum: it is the answer's own.
     if number == 42 {
         return put_open(head, rows, numbers, spare, j, m, out);
     }
@@ -197,78 +183,60 @@ fn put_witness(
 
 // Whether a witness is written for the place named: not at an end whose class has an over-all literal. `numbers` has the class number of
 // each literal of the table. (The decision names an action and a class of the domain; the tests are there for the proof alone.)
-pub fn is_shown(head: &Head, table: &[u8], numbers: &[u8], i: usize, j: usize, moment: u64) -> bool
+pub fn is_shown(
+    head: &Head,
+    table: &[u8],
+    numbers: &[u8],
+    i: usize,
+    j: usize,
+    moment: Moment,
+) -> bool
     requires { length table.now ≤ 8 * length numbers.now }
     ensures { (D : Domain) (old : List ℕ) → Held D head.now table.now → well_formed D ≡ true
         → numbers.now ≡ over (numbers_of D D.actions) old → i < length D.actions
-        → j < length (classes D (action D i)) → result ≡ shown_at D (action D i) (get_or (classes D (action D i)) j []) (moment_by moment) }
+        → j < length (classes D (action D i)) → result ≡ shown_at D (action D i) (get_or (classes D (action D i)) j []) moment }
 {
-    if moment == 0 {
-        return true;
-    }
-    if actions_in(head) <= i {
-        return true;
-    }
-    if MAX_LITERALS <= j {
+    if moment == Moment::Start || actions_in(head) <= i || MAX_LITERALS <= j {
         return true;
     }
     let span = rows_of(head, table, i);
-    let first = span.from;
-    let last = span.to;
-    let from = 8 * first;
-    let to = 8 * last;
-    !lasts_at(&table[from..to], &numbers[first..last], j as u8)
+    !lasts_at(
+        &table[8 * span.from..8 * span.to],
+        &numbers[span.from..span.to],
+        j as u8,
+    )
 }
 
 // The witness of the place named: the class j of the action i at a moment, refused by `number`. Whether it fits; nothing is written where
-// it does not. (The decision names an action and a class of the domain; the tests are there for the proof alone.)
+// it does not. (The number is the answer's own. The decision names an action and a class of the domain; the tests are there for the proof
+// alone.)
 pub fn show(
     head: &Head,
     table: &[u8],
     numbers: &[u8],
     i: usize,
     j: usize,
-    moment: u64,
+    moment: Moment,
     number: u64,
     out: &mut [u8],
 ) -> bool
     requires { length table.now ≤ 8 * length numbers.now }
     ensures { (D : Domain) (old : List ℕ) → Held D head.now table.now → well_formed D ≡ true
         → numbers.now ≡ over (numbers_of D D.actions) old → i < length D.actions
-        → RefusedAt D (action D i) j (moment_by moment) number
-        → ShownAt D (action D i) j (moment_by moment) out.old out.new result }
+        → RefusedAt D (action D i) j moment number
+        → ShownAt D (action D i) j moment out.old out.new result }
 {
-    if actions_in(head) <= i {
-        return false;
-    }
-    if MAX_LITERALS <= j {
+    if actions_in(head) <= i || MAX_LITERALS <= j {
         return false;
     }
     let span = rows_of(head, table, i);
-    let first = span.from;
-    let last = span.to;
-    let from = 8 * first;
-    let to = 8 * last;
-    let spare = Object(variables_of(head, i));
-    if moment == 0 {
-        return put_witness(
-            head,
-            &table[from..to],
-            &numbers[first..last],
-            spare,
-            j,
-            Moment::Start,
-            number,
-            out,
-        );
-    }
     put_witness(
         head,
-        &table[from..to],
-        &numbers[first..last],
-        spare,
+        &table[8 * span.from..8 * span.to],
+        &numbers[span.from..span.to],
+        Object(variables_of(head, i)),
         j,
-        Moment::End,
+        moment,
         number,
         out,
     )

@@ -128,13 +128,12 @@ returns c =
       kept_count = keeps.ensures.count;
       kept_bytes = keeps.ensures.rows;
       kept_indexed = keeps.ensures.indexed;
-      joined_few = joins.ensures.few;
       joined = joins.ensures.joined;
     } in
     -- what is struck and added stays where it is
     let still = kept_effects (rows_in m struck) a.work.now a.n p.few p.rows then.new.scratch keeps.ensures.rows in
     record {
-      few = after_few X;
+      few = (after_few X, joins.ensures.few);
       after = λ D objs es fs C G u I.
           holds_after X
           (effects_of G C T.struck (ap (λ (t : List ℕ). rows_in (then.result - m) (drop (8 * m) t)) still ∙ T.added)) u I;

@@ -48,7 +48,7 @@ returns-then-n-ge-MAX_FACTS c =
     let t : Indexed a.head.now a.index.now rows → SizedRow a.head.now (take 8 (drop a.at a.scratch.now)) → has_row
     row-at.result rows ≡ false
     = λ I b. sym (c.is_held.ensures a.head.now I (sized_as a.head.now e b)) ∙ c.if-is_held.false in record {
-      few = (omega arith, omega arith);
+      few = tt;
       joined = λ I b. record {
         count = full_count a.n a.scratch.now g w e (t I b) f;
         bytes = full_rows a.n a.scratch.now g w e (t I b) f;

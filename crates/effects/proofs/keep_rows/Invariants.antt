@@ -5,8 +5,8 @@ use Rattle.effects.specs.Held.{effects_in}
 use Rattle.effects.proofs.IndexedRows.{Keeping}
 use Rattle.effects.proofs.keep_rows.Given as goal
 
-abbrev pub invariant-loop-marks : goal.invariant-loop-marks
-invariant-loop-marks l = Keeping (rows_in l.m (effects_in l.initial.scratch)) l.work l.n l.head l.initial.scratch l.initial.index l.scratch l.index l.k l.i
+abbrev pub invariant-loop-next : goal.invariant-loop-next
+invariant-loop-next l = Keeping (rows_in l.m (effects_in l.initial.scratch)) l.work l.n l.head l.initial.scratch l.initial.index l.scratch l.index l.k l.i
 
-abbrev pub decreases-loop-marks : goal.decreases-loop-marks
-decreases-loop-marks l = l.n - l.i
+abbrev pub decreases-loop-next : goal.decreases-loop-next
+decreases-loop-next l = l.n - l.i

@@ -17,10 +17,10 @@ use Rattle.journeys.specs.Held.{journey_mark}
 use Rattle.journeys.proofs.Belonging.{journey_for}
 use Rattle.journeys.proofs.count_marked.Given as goal
 
-abbrev pub invariant-loop-class : goal.invariant-loop-class
-invariant-loop-class l =
-    (l.class ≤ l.count) × (l.found ≤ l.class) × ((D : Domain) (g : GroundAction) (y : List Object)
+abbrev pub invariant-loop-mark : goal.invariant-loop-mark
+invariant-loop-mark l =
+    (l.mark-index ≤ l.count) × (l.found ≤ l.mark-index) × ((D : Domain) (g : GroundAction) (y : List Object)
     → ActionOf D (action D g.action) l.head l.rows → GroundFits D g → l.act ≡ ground_row g → length y ≡ keys_of D.template
     → l.row ≡ row_of (object_numbers y) → l.count ≡ length (classes D (action D g.action))
     → ((k : ℕ) → k < l.count → get_or l.marks k 0 ≡ journey_mark D (action D g.action) k)
-    → l.found + count_by (journey_for D y g) (drop l.class (classes D (action D g.action))) ≡ journeys_for D y g)
+    → l.found + count_by (journey_for D y g) (drop l.mark-index (classes D (action D g.action))) ≡ journeys_for D y g)

@@ -18,17 +18,17 @@ returns-then-actions_in-action c = record {
   counts = λ D g y H wf G ge sized re.
       let t = c.if-actions_in-action.true in
       let n = c.actions_in.ensures.number in
-      let w = c.wide-action.ensures.number in
+      let w = c.from-action.ensures in
       absurd (ground_listed H g G _ ge (omega arith));
 }
 
 pub returns-then-not-is_lasting : goal.returns-then-not-is_lasting
 returns-then-not-is_lasting c =
     let back8 = c in
-    let wide = c.wide-action in record {
+    let wide = c.from-action in record {
       few = omega arith;
       counts = λ D g y H wf G ge sized re.
-          let w : wide.result ≡ g.action = wide.ensures.number
+          let w : wide.result ≡ g.action = wide.ensures
           ∙ ap (λ (t : List ℕ). get_or t 0 0) ge in
           let l : g.action < length D.actions = G.listed in
           none_at_once D y g
@@ -46,11 +46,11 @@ journeys_of-requires c =
 pub returns : goal.returns
 returns c =
     let back8 = c in
-    let wide = back8.wide-action in
+    let wide = back8.from-action in
     let j = c.journeys_of in record {
       few = j.ensures.few;
       counts = λ D g y H wf G ge sized re.
-          let w : wide.result ≡ g.action = wide.ensures.number ∙ ap (λ (t : List ℕ). get_or t 0 0) ge in
+          let w : wide.result ≡ g.action = wide.ensures ∙ ap (λ (t : List ℕ). get_or t 0 0) ge in
           let l : g.action < length D.actions = G.listed in
           let S = c.rows_of-span.ensures.rows D H (omega arith) in
           let A = action_held H wf g.action l (S.literals ∙ ap (λ (i : ℕ). flat_map literal_row (action D i).lits) w) in

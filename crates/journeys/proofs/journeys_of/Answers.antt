@@ -1,13 +1,10 @@
 -- `journeys_of` meets its contract: the classes are numbered, marked and counted. Assumes nothing.
-use borrow.Author.Rules.{rules}
 use mathlib.Core.Path.{refl, sym, ◌∙◌}
 use native.Mathlib.Nat.{sub-zero}
 use native.Mathlib.Omega.{arith}
+use Rattle.verdict.proofs.ReadActions.{same_head}
 use Rattle.journeys.proofs.Belonging.{part_within, part_again}
 use Rattle.journeys.proofs.journeys_of.Goals as goal
-
-pub number_classes-count-requires : goal.number_classes-count-requires
-number_classes-count-requires c = record { places = c.put_places.ensures refl; rowed = search rules; literals = search rules; words = search rules }
 
 pub slice_bounds-mark_journeys-end : goal.slice_bounds-mark_journeys-end
 slice_bounds-mark_journeys-end c =
@@ -29,7 +26,7 @@ returns c =
     let small = m.ensures.few in record {
       few = omega arith;
       counts = λ D g y A lasting G ge sized re.
-          let t = n.classes D _ A in
+          let t = n.classes D _ (same_head back16.of-places.ensures A) in
           m.ensures.counts D g y A G ge sized re t.0
           (c.mark_journeys.ensures D _ _ A lasting (part_again number-classes.new.numbers _ _ f ∙ t.1)
           t.0 refl);

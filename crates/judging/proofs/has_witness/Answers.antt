@@ -1,16 +1,23 @@
 -- `has_witness` meets its contract. Assumes nothing.
-use mathlib.Core.Path.{sym}
+use mathlib.Core.Path.{sym, ◌∙◌}
+use native.Mathlib.Omega.{arith}
+use Rattle.records.proofs.Lists.{clash}
 use Rattle.judging.proofs.Calls.{writes_below, writes_above, writes_at}
 use Rattle.judging.proofs.has_witness.Goals as goal
+use Rattle.judging.proofs.has_witness.Goals.{in-40-to-42, in_default, in_default-2}
 
-pub returns-then-number-lt40 : goal.returns-then-number-lt40
-returns-then-number-lt40 c D old H wf f is = sym (writes_below D _ c.if-number-lt40.true)
+pub returns-then-matches : goal.returns-then-matches
+returns-then-matches c D old H wf f is =
+    elim c.if-matches-2.branch [
+      | in-40-to-42 w ↦ writes_at D is (omega arith) (omega arith) c.moment.ensures (c.is_shown.ensures D old H wf f)
+      | in_default w ↦ absurd (clash c.if-matches.true w.matches-is)
+      | in_default-2 w ↦ absurd (clash c.if-matches.true w.matches-is)
+    ]
 
-pub returns-then-number-gt42 : goal.returns-then-number-gt42
-returns-then-number-gt42 c D old H wf f is = sym (writes_above D _ c.if-number-gt42.true)
-
-pub returns : goal.returns
-returns c D old H wf f is =
-    let lo = c.if-number-lt40.false in
-    let hi = c.if-number-gt42.false in
-    writes_at D is lo hi (c.is_shown.ensures D old H wf f)
+pub returns-else-matches : goal.returns-else-matches
+returns-else-matches c D old H wf f is =
+    elim c.if-matches-2.branch [
+      | in-40-to-42 w ↦ absurd (clash w.matches-is c.if-matches.false)
+      | in_default w ↦ w.matches-is ∙ sym (writes_below D _ (omega arith))
+      | in_default-2 w ↦ w.matches-is ∙ sym (writes_above D _ (omega arith))
+    ]

@@ -5,10 +5,6 @@ use native.Mathlib.Omega.{arith}
 use Rattle.verdict.proofs.Summed.{any_number}
 use Rattle.naming.proofs.name_action.Goals as goal
 
-pub number_classes-classes-requires : goal.number_classes-classes-requires
-number_classes-classes-requires c = let p = c.requires in
-    record { places = p.places; rowed = p.rowed; literals = p.literals; words = p.words }
-
 pub name_classes-naming-requires : goal.name_classes-naming-requires
 name_classes-naming-requires c =
     let back8 = c in

@@ -7,7 +7,7 @@ use borrow.Rule.Slice.PartMut.{Post-is}
 use Rattle.literals.specs.Domain.{action}
 use Rattle.literals.proofs.Spans.{part_length}
 use Rattle.classes.proofs.Tables.{numbers_more_actions}
-use Rattle.verdict.proofs.ReadActions.{action_held}
+use Rattle.verdict.proofs.ReadActions.{action_held, same_head}
 use Rattle.naming.proofs.NamedRows.{names_room, names_next, names_few, numbered_none, numbered_all, listed_none, listed_action, noted_action, counted_action, naming_done}
 use Rattle.naming.proofs.name_all.Goals as goal
 
@@ -54,7 +54,7 @@ name_action-named-requires c =
     (let q = l.invariant.room in let u = c.requires.room in omega arith) in
     let q = c.name_action-arg-in-loop-i-1.given.1 in
     let e = part_length c.args.table.now b.result.from b.result.to o F.room in
-    let s = names_room H l.i h (b.ensures.rows _ H h) F _ (l.invariant.few _ H) _ r in record { places = c.put_places.ensures refl; rowed = e ∙ ap (λ (n : ℕ). 8 * n) q; literals = omega arith; words = l.invariant.words_room; room = omega arith }
+    let s = names_room H l.i h (b.ensures.rows _ H h) F _ (l.invariant.few _ H) _ r in record { rowed = e ∙ ap (λ (n : ℕ). 8 * n) q; literals = omega arith; words = l.invariant.words_room; room = omega arith }
 
 pub overflow_cast-counts : goal.overflow_cast-counts
 overflow_cast-counts c =
@@ -99,6 +99,7 @@ pub loop-i-preserved : goal.loop-i-preserved
 loop-i-preserved c =
     let back8 = c in
     let back16 = back8 in
+    let back24 = back16 in
     let is-lasting = back8.is_lasting in
     let b = back8.rows_of-span in
     let F = b.ensures.fits in
@@ -115,7 +116,7 @@ loop-i-preserved c =
           let m = H.says.actions in
           let h : l.i < length D.actions = omega arith in
           let S = b.ensures.rows D H h in
-          let A = action_held H wf l.i h S.literals in
+          let A = same_head back24.of-places.ensures (action_held H wf l.i h S.literals) in
           ap (λ (t : List ℕ). take b.result.from l.numbers ++ (w.new.numbers ++ t))
           (Post-is b.result.from b.result.to l.numbers F.order)
           ∙ numbers_more_actions D l.i h S l.numbers _ _ (l.invariant.numbered D H wf) (w.ensures.numbers D (action D l.i) A);
@@ -130,14 +131,14 @@ loop-i-preserved c =
           λ D H wf.
           let m = H.says.actions in
           let h : l.i < length D.actions = omega arith in
-          let A = action_held H wf l.i h (b.ensures.rows D H h).literals in
+          let A = same_head back24.of-places.ensures (action_held H wf l.i h (b.ensures.rows D H h).literals) in
           listed_action D l.i h (w.ensures.named D (action D l.i) A (sym (is-lasting.ensures ∙ H.says.lasting l.i h)) _ _
           l.i (l.invariant.listed D H wf)).2;
       noted =
           λ D H wf.
           let m = H.says.actions in
           let h : l.i < length D.actions = omega arith in
-          let A = action_held H wf l.i h (b.ensures.rows D H h).literals in
+          let A = same_head back24.of-places.ensures (action_held H wf l.i h (b.ensures.rows D H h).literals) in
           let a = w.ensures.named D (action D l.i) A (sym (is-lasting.ensures ∙ H.says.lasting l.i h)) _ _ l.i
           (l.invariant.listed D H wf) in
           noted_action D l.i h (l.invariant.noted D H wf) a.1 c.with-notes.ensures;
@@ -145,7 +146,7 @@ loop-i-preserved c =
           λ D H wf z.
           let m = H.says.actions in
           let h : l.i < length D.actions = omega arith in
-          let A = action_held H wf l.i h (b.ensures.rows D H h).literals in
+          let A = same_head back24.of-places.ensures (action_held H wf l.i h (b.ensures.rows D H h).literals) in
           let a = w.ensures.named D (action D l.i) A (sym (is-lasting.ensures ∙ H.says.lasting l.i h)) _ _ l.i
           (l.invariant.listed D H wf) in
           ap (λ (v : ℕ). set l.counts l.i v) a.0

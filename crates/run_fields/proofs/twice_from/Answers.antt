@@ -1,17 +1,15 @@
-use mathlib.Core.Path.{sym, ◌∙◌}
-use native.Mathlib.Omega.{arith}
-use Rattle.run_fields.proofs.RunFields.{twice_hit, twice_miss, twice_end}
+-- `twice_from` meets its contract. Assumes nothing.
+use Rattle.std.proofs.Common.{rules, tests}
+use Rattle.std.proofs.lemmas.Iterator.{YieldsList-from_range}
+use Rattle.std.proofs.lemmas.Iterator.Search.{any_from_yields_List}
+use mathlib.Core.Path.{refl, ◌∙◌}
+use lib.ListN.{length}
+use Rattle.run_fields.specs.Held.{stands_again}
+use Rattle.run_fields.proofs.RunFields.{again_twice}
 use Rattle.run_fields.proofs.twice_from.Goals as goal
 
-pub returns-then-count_from-ne0 : goal.returns-then-count_from-ne0
-returns-then-count_from-ne0 c =
-    let turn = c in
-    sym (twice_hit turn.args.p.now turn.loop-i.i _ (omega arith) c.count_from.ensures c.if-count_from-ne0.true) ∙ turn.loop-i.invariant
-
-pub loop-i-preserved : goal.loop-i-preserved
-loop-i-preserved c =
-    let turn = c in
-    sym (twice_miss turn.args.p.now turn.loop-i.i _ (omega arith) c.count_from.ensures c.if-count_from-ne0.false) ∙ turn.loop-i.invariant
-
 pub returns : goal.returns
-returns c = sym (twice_end c.args.p.now c.loop-i.i (omega arith)) ∙ c.loop-i.invariant
+returns c =
+    let a = c.args in
+    any_from_yields_List (stands_again a.p.now) _ _ _ c.any.ensures.ran (YieldsList-from_range a.from (length a.p.now) _ refl refl) (λ x b q k. search (rules, tests))
+    ∙ again_twice a.p.now a.from

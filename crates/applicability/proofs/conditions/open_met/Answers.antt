@@ -20,7 +20,7 @@ entry_met-requires c =
     let back8 = c in
     let p = back8.requires in
     let s = c.loop-i.invariant.sized in
-    record { entries = p.entries; entry = omega arith; memory = omega arith; few = p.few; facts = p.facts }
+    record { entries = p.entries; entry = omega arith; memory = omega arith }
 
 pub shape_of-memory-then-not-entry_met : goal.shape_of-memory-then-not-entry_met
 shape_of-memory-then-not-entry_met c = c.entry_met.auto.memory ∙ c.loop-i.invariant.sized

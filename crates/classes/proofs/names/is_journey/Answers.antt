@@ -1,41 +1,33 @@
--- `is_journey` meets its contract, test by test. Assumes nothing.
-use mathlib.Core.Path.{◌∙◌}
-use native.Mathlib.Omega.{arith}
+-- `is_journey` meets its contract, count by count. Assumes nothing.
+use mathlib.Core.Path.{ap, ◌∙◌}
 use Rattle.literals.specs.declared.Moment.TheVariants.{End}
-use Rattle.classes.proofs.Decides.{moment_of_lem, no_conditions, many_conditions, one_condition, some_conditions, no_adds, many_adds, one_add, some_adds, deleted_held, sole_inside, adds_at_start, not_one_condition, condition_at_end, not_one_add, journey_deletes}
+use Rattle.classes.specs.Held.{deleted_in}
+use Rattle.classes.proofs.Decides.{moment_of_lem, no_conditions, one_condition, some_conditions, other_conditions, no_adds, one_add, some_adds, other_adds, deleted_held, sole_inside, adds_at_start, not_one_condition, condition_at_end, not_one_add, journey_deletes}
 use Rattle.classes.proofs.names.is_journey.Goals as goal
 
-pub returns-then-start-ne0 : goal.returns-then-start-ne0
-returns-then-start-ne0 c D a head M l z h = adds_at_start D a _ (some_adds M h c.requires.counted c.if-start-ne0.true)
+pub deletes-requires : goal.deletes-requires
+deletes-requires c =
+    let a = c.args in
+    let p = c.requires in
+    rw c.from.ensures (sole_inside a.numbers.now a.usages.now a.class p.sides.few p.counted c.in-One-Zero-Zero-One.is-0)
 
-pub returns-then-condition-eq0 : goal.returns-then-condition-eq0
-returns-then-condition-eq0 c D a head M l z h = not_one_condition D a _ (λ o. let n = no_conditions M h c.requires.counted c.if-condition-eq0.true in omega arith)
+pub returns-in-One-Zero-Zero-One : goal.returns-in-One-Zero-Zero-One
+returns-in-One-Zero-Zero-One c D a head M l z h =
+    let w = c.in-One-Zero-Zero-One in
+    let s = c.requires.counted in
+    let x = c.args in
+    journey_deletes D a _ l (no_adds M h s w.is-1) (one_condition M h s w.is-0) (no_conditions (moment_of_lem M End) h z w.is-2)
+    (one_add (moment_of_lem M End) h z w.is-3) c.deletes.result
+    (c.deletes.ensures ∙ ap (deleted_in x.rows.now x.numbers.now x.usages.now x.class) c.from.ensures ∙ deleted_held M h s w.is-0)
 
-pub returns-then-condition : goal.returns-then-condition
-returns-then-condition c D a head M l z h = not_one_condition D a _ (λ o. let n = many_conditions M h c.requires.counted c.if-condition.true in omega arith)
+pub returns-in_default : goal.returns-in_default
+returns-in_default c D a head M l z h = not_one_add D a _ (other_adds (moment_of_lem M End) h z c.in_default.not-One-3)
 
-pub returns-then-end-ne0 : goal.returns-then-end-ne0
-returns-then-end-ne0 c D a head M l z h = condition_at_end D a _ (some_conditions (moment_of_lem M End) h z c.if-end-ne0.true)
+pub returns-in_default-2 : goal.returns-in_default-2
+returns-in_default-2 c D a head M l z h = condition_at_end D a _ (some_conditions (moment_of_lem M End) h z c.in_default.not-Zero-2)
 
-pub returns-then-end-eq0 : goal.returns-then-end-eq0
-returns-then-end-eq0 c D a head M l z h = not_one_add D a _ (λ o. let n = no_adds (moment_of_lem M End) h z c.if-end-eq0.true in omega arith)
+pub returns-in_default-3 : goal.returns-in_default-3
+returns-in_default-3 c D a head M l z h = adds_at_start D a _ (some_adds M h c.requires.counted c.in_default.not-Zero-1)
 
-pub returns-then-end-eq255 : goal.returns-then-end-eq255
-returns-then-end-eq255 c D a head M l z h = not_one_add D a _ (λ o. let n = many_adds (moment_of_lem M End) h z c.if-end-eq255.true in omega arith)
-
-pub is_deleted-requires : goal.is_deleted-requires
-is_deleted-requires c =
-    let back8 = c in
-    let s = back8 in
-    record { sides = s.requires.sides; one = sole_inside s.args.numbers.now s.args.usages.now s.args.class s.requires.sides.few s.requires.counted c.if-condition-eq0.false c.if-condition.false }
-
-pub returns : goal.returns
-returns c D a head M l z h =
-    let back8 = c in
-    let s = back8.requires.counted in
-    let some = back8.if-condition-eq0.false in
-    let few = c.if-condition.false in
-    journey_deletes D a _ l (no_adds M h s back8.if-start-ne0.false) (one_condition M h s some few)
-    (no_conditions (moment_of_lem M End) h z c.if-end-ne0.false)
-    (one_add (moment_of_lem M End) h z c.if-end-eq0.false c.if-end-eq255.false) c.is_deleted.result
-    (c.is_deleted.ensures ∙ deleted_held M h s some few)
+pub returns-in_default-4 : goal.returns-in_default-4
+returns-in_default-4 c D a head M l z h = not_one_condition D a _ (other_conditions M h c.requires.counted c.in_default.not-One-0)

@@ -1,55 +1,60 @@
 -- `name_at` meets its contract: the first line that fits, test by test. Assumes nothing.
-use mathlib.Core.Path.{sym, ◌∙◌}
+use mathlib.Core.Path.{◌≡◌, sym, ap, ◌∙◌}
 use mathlib.Core.Bool.{true, false}
-use borrow.Author.Tests.{eq-eqb, ne_eqb}
-use Rattle.classes.proofs.Decides.{sole_inside, unreachable_named, own_unreachable_named, irrelevant_named, heavy_named, changed_named, covered_named}
+use Rattle.std.proofs.Common.{rules}
+use Rattle.classes.specs.declared.Count.TheVariants.{More}
+use Rattle.classes.specs.Held.{changed_at}
+use Rattle.classes.proofs.Decides.{sole_inside, unreachable_named, own_unreachable_named, irrelevant_named, heavy_named, changed_named, bounded_named, unbounded_named}
 use Rattle.classes.proofs.names.name_at.Goals as goal
 
-pub returns-then-reach-eq255 : goal.returns-then-reach-eq255
-returns-then-reach-eq255 c D a m M h r = unreachable_named M h c.requires.counted r c.if-reach-eq255.true
+pub returns-then-eq : goal.returns-then-eq
+returns-then-eq c D a m M h r = let e : c.args.reach ≡ More = search rules in unreachable_named M h c.requires.counted r e
 
-pub returns-then-conditions : goal.returns-then-conditions
-returns-then-conditions c D a m M h r = own_unreachable_named M h c.requires.counted r c.if-conditions.true
+pub returns-in-More-default : goal.returns-in-More-default
+returns-in-More-default c D a m M h r = own_unreachable_named M h c.requires.counted r c.in-More-default.is-0
 
-pub returns-then-adds-eq0 : goal.returns-then-adds-eq0
-returns-then-adds-eq0 c D a m M h r = irrelevant_named M h c.requires.counted r c.if-reach-eq255.false c.if-conditions.false c.if-adds-eq0.true
+pub returns-in_default-Zero : goal.returns-in_default-Zero
+returns-in_default-Zero c D a m M h r = let e : c.args.reach ≡ More → ⊥ = search rules in irrelevant_named M h c.requires.counted r e c.in_default-Zero.is-1
 
-pub returns-then-adds : goal.returns-then-adds
-returns-then-adds c D a m M h r = heavy_named M h c.requires.counted r c.if-reach-eq255.false c.if-conditions.false c.if-adds.true
+pub returns-in_default-Zero-2 : goal.returns-in_default-Zero-2
+returns-in_default-Zero-2 c D a m M h r = let e : c.args.reach ≡ More → ⊥ = search rules in irrelevant_named M h c.requires.counted r e c.in_default-Zero.is-1
 
-pub returns-then-first_uncovered-components_in : goal.returns-then-first_uncovered-components_in
-returns-then-first_uncovered-components_in c D a m M h r =
-    let back8 = c in
-    covered_named M h back8.requires.counted r c.if-reach-eq255.false
-    c.if-conditions.false c.if-adds-eq0.false
-    c.if-adds.false c.if-conditions-eq0.true _ _
-    (c.first_uncovered.ensures D a m M h) (c.components_in.ensures.number ∙ M.whole.says.components) true
-    (eq-eqb _ _ c.if-first_uncovered-components_in.true)
+pub returns-in_default-More : goal.returns-in_default-More
+returns-in_default-More c D a m M h r = let e : c.args.reach ≡ More → ⊥ = search rules in heavy_named M h c.requires.counted r e c.in_default-More.is-1
 
-pub returns-then-conditions-eq0 : goal.returns-then-conditions-eq0
-returns-then-conditions-eq0 c D a m M h r =
-    let back8 = c in
-    covered_named M h back8.requires.counted r c.if-reach-eq255.false
-    c.if-conditions.false c.if-adds-eq0.false
-    c.if-adds.false c.if-conditions-eq0.true _ _
-    (c.first_uncovered.ensures D a m M h) (c.components_in.ensures.number ∙ M.whole.says.components) false
-    (ne_eqb _ _ c.if-first_uncovered-components_in.false)
+pub returns-in_default-More-2 : goal.returns-in_default-More-2
+returns-in_default-More-2 c D a m M h r = let e : c.args.reach ≡ More → ⊥ = search rules in heavy_named M h c.requires.counted r e c.in_default-More.is-1
 
-pub is_changed-requires : goal.is_changed-requires
-is_changed-requires c =
-    let s = c in
-    record { sides = s.requires.sides; one = sole_inside s.args.numbers.now s.args.usages.now s.args.class s.requires.sides.few s.requires.counted c.if-conditions-eq0.false c.if-conditions.false }
+pub returns-in-Some : goal.returns-in-Some
+returns-in-Some c D a m M h r =
+    let e : c.args.reach ≡ More → ⊥ = search rules in
+    let w = c.in-Zero-One in
+    unbounded_named M h c.requires.counted r e w.is-1 w.is-0 (sym (c.first_uncovered.ensures D a m M h) ∙ c.in-Some.is)
 
-pub returns-then-is_changed : goal.returns-then-is_changed
-returns-then-is_changed c D a m M h r =
-    let back8 = c in
-    changed_named M h back8.requires.counted r c.if-reach-eq255.false
-    c.if-conditions.false c.if-adds-eq0.false
-    c.if-adds.false c.if-conditions-eq0.false true (sym c.is_changed.ensures ∙ c.if-is_changed.true)
+pub returns-in-None : goal.returns-in-None
+returns-in-None c D a m M h r =
+    let e : c.args.reach ≡ More → ⊥ = search rules in
+    let w = c.in-Zero-One in
+    bounded_named M h c.requires.counted r e w.is-1 w.is-0 (sym (c.first_uncovered.ensures D a m M h) ∙ c.in-None.is)
 
-pub returns : goal.returns
-returns c D a m M h r =
-    let back8 = c in
-    changed_named M h back8.requires.counted r c.if-reach-eq255.false
-    c.if-conditions.false c.if-adds-eq0.false
-    c.if-adds.false c.if-conditions-eq0.false false (sym c.is_changed.ensures ∙ c.if-is_changed.false)
+pub changes-requires : goal.changes-requires
+changes-requires c =
+    let a = c.args in
+    let p = c.requires in
+    rw c.from.ensures (sole_inside a.numbers.now a.usages.now a.class p.sides.few p.counted c.in-One-One.is-0)
+
+pub returns-then-changes : goal.returns-then-changes
+returns-then-changes c D a m M h r =
+    let e : c.args.reach ≡ More → ⊥ = search rules in
+    let w = c.in-One-One in
+    let x = c.args in
+    changed_named M h c.requires.counted r e w.is-1 w.is-0 true
+    (ap (changed_at x.rows.now x.numbers.now x.usages.now x.class) (sym c.from.ensures) ∙ sym c.changes.ensures ∙ c.if-changes.true)
+
+pub returns-else-changes : goal.returns-else-changes
+returns-else-changes c D a m M h r =
+    let e : c.args.reach ≡ More → ⊥ = search rules in
+    let w = c.in-One-One in
+    let x = c.args in
+    changed_named M h c.requires.counted r e w.is-1 w.is-0 false
+    (ap (changed_at x.rows.now x.numbers.now x.usages.now x.class) (sym c.from.ensures) ∙ sym c.changes.ensures ∙ c.if-changes.false)

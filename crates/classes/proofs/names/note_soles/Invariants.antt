@@ -8,5 +8,4 @@ use Rattle.classes.proofs.Soles.{Tallied}
 use Rattle.classes.proofs.names.note_soles.Given as goal
 
 abbrev pub invariant-loop-j : goal.invariant-loop-j
-invariant-loop-j l = (l.j ≤ length l.numbers) × (length l.soles ≡ length l.initial.soles)
-    × (l.initial.soles ≡ pad 320 [] → Tallied l.rows l.numbers l.j l.soles)
+invariant-loop-j l = (l.j ≤ length l.numbers) × (l.initial.soles ≡ pad 320 [] → Tallied l.rows l.numbers l.j l.soles)

@@ -8,6 +8,6 @@ pub returns-then-same_four : goal.returns-then-same_four
 returns-then-same_four c = let a = c.args in
     agree_same a.rows.now a.i a.j (omega arith) (omega arith) (sym c.same_four.ensures ∙ c.if-same_four.true) c.same_four-then-same_four.ensures
 
-pub returns : goal.returns
-returns c = let a = c.args in
-    agree_other a.rows.now a.i a.j (omega arith) (omega arith) (sym c.same_four.ensures ∙ c.if-same_four.false)
+pub returns-else-same_four : goal.returns-else-same_four
+returns-else-same_four c = let a = c.args in
+    c.if-same_four.false ∙ agree_other a.rows.now a.i a.j (omega arith) (omega arith) (sym c.same_four.ensures ∙ c.if-same_four.false)

@@ -16,7 +16,7 @@ loop-j-preserved c =
     let a = c.args in
     let l = c.loop-j in (
       omega arith,
-      λ e. usages_more a.wide a.rows.now a.m l.usages l.j c.usage_once.result (omega arith) (l.invariant.1 e) c.usage_once.ensures,
+      λ e. usages_more a.wide a.rows.now a.m l.usages l.j c.usage_mark.result (omega arith) (l.invariant.1 e) (c.usage_mark.ensures ∙ c.usage_once.ensures),
     )
 
 pub returns : goal.returns

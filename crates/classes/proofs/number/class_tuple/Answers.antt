@@ -1,27 +1,22 @@
-use mathlib.Core.Path.{◌∙◌}
+-- `class_tuple` meets its contract: the first literal with the number has the tuple, and one has it. Assumes nothing.
+use mathlib.Core.Path.{sym, ◌∙◌}
 use native.Mathlib.Omega.{arith}
-use borrow.Author.Tests.{ne_eqb}
-use Rattle.classes.proofs.Numbering.{tuple_found, tuple_somewhere, none_more}
+use lib.Dec.{eqb}
+use borrow.Author.Tests.{eqb-true, ne_eqb, eqb-false}
+use Rattle.std.proofs.lemmas.List.Quantifiers.{position-Some}
+use Rattle.classes.proofs.NewClasses.{place_none, none_passes}
+use Rattle.classes.proofs.Numbering.{tuple_found, tuple_somewhere}
 use Rattle.classes.proofs.number.class_tuple.Goals as goal
 
-pub loop-j-init : goal.loop-j-init
-loop-j-init c = (omega arith, λ i h. absurd (omega arith))
-
-pub overflow_mul-j : goal.overflow_mul-j
-overflow_mul-j c = let s = c.requires in let r = s.rowed in let f = s.few in omega arith
-
-pub literal_tuple-requires : goal.literal_tuple-requires
-literal_tuple-requires c = let r = c.requires.rowed in omega arith
-
-pub returns-then-numbers-j : goal.returns-then-numbers-j
-returns-then-numbers-j c D a A e h =
+pub returns-in-Some : goal.returns-in-Some
+returns-in-Some c D a A e h =
+    let x = c.args in
     let r = c.requires.rowed in
-    c.literal_tuple.ensures ∙ tuple_found A e h c.loop-j.j (omega arith) c.if-numbers-j.true
+    let i = position-Some (eqb x.class) x.numbers.now c.in-Some.j 0 (sym c.first_of.ensures ∙ c.in-Some.is) in
+    let inside = i.0 in
+    c.literal_tuple.ensures ∙ tuple_found A e h c.in-Some.j (omega arith) (sym (eqb-true _ _ i.1))
 
-pub loop-j-preserved : goal.loop-j-preserved
-loop-j-preserved c = (omega arith, none_more c.args.numbers.now c.args.class c.loop-j.j c.loop-j.invariant.1 (ne_eqb _ _ c.if-numbers-j.false))
-
-pub returns : goal.returns
-returns c D a A e h =
-    let l = c.loop-j in
-    absurd (tuple_somewhere A e h (λ i k. l.invariant.1 i (omega arith)))
+pub returns-in-None : goal.returns-in-None
+returns-in-None c D a A e h =
+    let x = c.args in
+    absurd (tuple_somewhere A e h (λ j g. ne_eqb _ _ (λ z. eqb-false _ _ (none_passes (eqb x.class) x.numbers.now (place_none _ _ (sym c.first_of.ensures ∙ c.in-None.is)) j 0 g) (sym z))))

@@ -3,13 +3,7 @@ use Rattle.classes.proofs.Numbering.{so_far_none, so_far_more, so_far_all}
 use Rattle.classes.proofs.number.number_classes.Goals as goal
 
 pub loop-j-init : goal.loop-j-init
-loop-j-init c = let a = c.args in so_far_none a.head.now a.rows.now a.numbers.now a.words.now
-
-pub number_literal-o-requires : goal.number_literal-o-requires
-number_literal-o-requires c =
-    let w = c.loop-j.invariant.few in
-    let r = c.loop-j.invariant.room in
-    record { keys = c.keys_in-keys.ensures.number; places = c.requires.places; row = omega arith; room = omega arith; words = omega arith }
+loop-j-init c = let a = c.args in so_far_none a.places.now.head.now a.rows.now a.numbers.now a.words.now
 
 pub bounds-numbers-j : goal.bounds-numbers-j
 bounds-numbers-j c = let w = c.loop-j.invariant.whole in omega arith
@@ -21,10 +15,11 @@ loop-j-preserved c =
     let a = back8.args in
     let p = back8.requires in
     let l = c.loop-j in
-    so_far_more a.head.now a.rows.now a.numbers.now l.numbers a.words.now l.words _ l.count l.j
+    rw c.class_byte.ensures
+    (so_far_more a.places.now.head.now a.rows.now a.numbers.now l.numbers a.words.now l.words _ l.count l.j
     number-literal.result number-literal.auto.words p.rowed (omega arith)
     l.invariant (omega arith)
-    number-literal.ensures.number number-literal.ensures.words
+    number-literal.ensures.number number-literal.ensures.words)
 
 pub shape_of-numbers : goal.shape_of-numbers
 shape_of-numbers c = c.loop-j.invariant.whole
@@ -40,6 +35,6 @@ returns c =
     let w = l.invariant.few in
     let r = l.invariant.reach in record {
       few = omega arith;
-      classes = so_far_all a.head.now a.rows.now a.numbers.now l.numbers a.words.now l.words l.count l.j
+      classes = so_far_all a.places.now.head.now a.rows.now a.numbers.now l.numbers a.words.now l.words l.count l.j
           p.rowed l.invariant (omega arith);
     }

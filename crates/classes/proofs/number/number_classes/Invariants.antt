@@ -3,4 +3,4 @@ use Rattle.classes.proofs.Numbering.{SoFar}
 use Rattle.classes.proofs.number.number_classes.Given as goal
 
 abbrev pub invariant-loop-j : goal.invariant-loop-j
-invariant-loop-j l = SoFar l.head l.rows l.initial.numbers l.numbers l.initial.words l.words l.count l.j
+invariant-loop-j l = SoFar l.places.head.now l.rows l.initial.numbers l.numbers l.initial.words l.words l.count l.j

@@ -17,7 +17,7 @@ returns-then-actions_in-action c = record {
   few = (omega arith, omega arith);
   literals = λ D g H F f.
       let a = c.args in
-      let w = c.wide-action.ensures.number in
+      let w = c.from-action.ensures in
       let n = c.actions_in.ensures.number in
       let t = c.if-actions_in-action.true in
       absurd (ground_listed H g F a.act.now f (omega arith));
@@ -57,7 +57,7 @@ returns c =
     let back8 = c in
     let back16 = back8 in
     let ground-literals = c.ground_literals in
-    let wide = back8.wide-action in
+    let wide = back8.from-action in
     let a = back16.args in
     let s = back8.rows_of-span in
     let m = s.ensures.fits.few in
@@ -72,7 +72,7 @@ returns c =
     let few = k.1 in record {
       few = (omega arith, omega arith);
       literals = λ D g H F f.
-          let w : wide.result ≡ g.action = wide.ensures.number
+          let w : wide.result ≡ g.action = wide.ensures
           ∙ ap (λ (x : List ℕ). get_or x 0 0) f in
           let h : g.action < length D.actions = F.listed in
           let S = subst (λ (i : ℕ). SpanOf D i a.table.now s.result) w (s.ensures.rows D H (omega arith)) in

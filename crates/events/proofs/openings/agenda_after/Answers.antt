@@ -1,53 +1,43 @@
 -- `agenda_after` meets its contract: the entries change in a copy, which is put back where they fit, and the events are cleared. Assumes
 -- nothing.
-use mathlib.Core.Path.{refl, sym, ◌∙◌}
-use mathlib.Core.Bool.{true≢false}
-use native.Mathlib.Omega.{arith}
-use lib.ListN.{replicate}
-use Rattle.events.specs.Held.{open_bytes, entries_in}
-use Rattle.events.proofs.GroundRows.{whole_copy}
-use Rattle.events.proofs.Agenda.{section_length, after_entries, after_waits}
+use mathlib.Core.Path.{refl, sym, ap, ◌∙◌}
+use Prim.Native.Nat.{ℕ}
+use Rattle.std.specs.Prelude.{is_some}
+use Rattle.events.proofs.Agenda.{after_entries, after_waits}
 use Rattle.events.proofs.openings.agenda_after.Goals as goal
 
-pub returns-then-joined : goal.returns-then-joined
-returns-then-joined c =
-    let back8 = c in
-    let back16 = back8 in
-    let a = back16.args in
-    let p = back16.requires in
-    let x = back16.put_bytes in
-    let o = back8.open_after-joined in
-    let y = c.put_bytes-then-joined in
-    let z = c.put_zeros in
-    let yes = back8.if-joined.true in
-    let entries = whole_copy (replicate open_bytes 0) (entries_in a.agenda.now) x.new.out
-    (sym (section_length a.agenda.now 0 open_bytes (omega arith))) x.ensures in
-    let put = whole_copy (entries_in a.agenda.now) o.new.rows y.new.out
-    (section_length a.agenda.now 0 open_bytes (omega arith) ∙ sym (o.auto.rows ∙ x.auto.out)) y.ensures in record {
+pub returns-in_err-count : goal.returns-in_err-count
+returns-in_err-count c =
+    let a = c.args in
+    let x = c.copy_from_slice in
+    let none = c.from_residual.ensures in
+    record {
       joined = λ D gs es h k l few small e f.
-          let r = o.ensures D gs es h k l few small ((λ i. record { count = a.opened; rows = entries i }) ∙ e) f in (
-            r.0,
-            λ t. (λ i. record {
-              count = o.result.count;
-              rows = (after_entries a.agenda.now y.new.out z.new.out p y.auto.out z.ensures ∙ put) i;
-            }) ∙ r.1 t,
-          );
-      waits = λ t. after_waits a.agenda.now y.new.out z.new.out p y.auto.out z.ensures;
-      refused = λ t. absurd (true≢false (sym yes ∙ t));
+          let r = c.open_after.ensures D gs es h k l few small ((λ i. record { count = a.opened; rows = x.ensures.after i }) ∙ e) f in
+          (ap is_some (none ∙ sym c.in_err-count.was) ∙ r.0, λ m t. absurd (cc));
+      waits = λ m t. absurd (cc);
+      refused = λ t. refl;
     }
 
-pub returns-else-joined : goal.returns-else-joined
-returns-else-joined c =
-    let back8 = c in
-    let a = back8.args in
-    let x = back8.put_bytes in
-    let o = c.open_after-joined in
-    let no = c.if-joined.false in
-    let entries = whole_copy (replicate open_bytes 0) (entries_in a.agenda.now) x.new.out
-    (sym (section_length a.agenda.now 0 open_bytes (omega arith))) x.ensures in record {
+pub returns : goal.returns
+returns c =
+    let a = c.args in
+    let p = c.requires in
+    let x = c.copy_from_slice in
+    let o = c.open_after in
+    let y = c.copy_from_slice-2 in
+    let z = c.fill in
+    let cleared = z.ensures.after (λ y e. e) in
+    let n : ℕ = c.in_ok-count.count in
+    record {
       joined = λ D gs es h k l few small e f.
-          let r = o.ensures D gs es h k l few small ((λ i. record { count = a.opened; rows = entries i }) ∙ e) f in
-          (r.0, λ t. absurd (true≢false (sym t ∙ no)));
-      waits = λ t. absurd (true≢false (sym t ∙ no));
-      refused = λ t. refl;
+          let r = o.ensures D gs es h k l few small ((λ i. record { count = a.opened; rows = x.ensures.after i }) ∙ e) f in (
+            sym (ap is_some c.in_ok-count.was) ∙ r.0,
+            λ m t. (λ i. record {
+              count = m;
+              rows = (after_entries a.agenda.now y.new.self z.new.self p y.ensures.len cleared ∙ y.ensures.after) i;
+            }) ∙ r.1 m (c.in_ok-count.was ∙ t),
+          );
+      waits = λ m t. after_waits a.agenda.now y.new.self z.new.self p y.ensures.len cleared;
+      refused = λ t. absurd (cc);
     }

@@ -1,30 +1,18 @@
-use mathlib.Core.Path.{sym, ap, ◌∙◌}
+-- `all_open` meets its contract: the chain goes over the events by index. Assumes nothing.
+use mathlib.Core.Path.{refl, sym, ◌∙◌}
 use native.Mathlib.Omega.{arith}
-use Rattle.records.specs.Lists.{all}
-use Rattle.events.specs.Held.{grounds_in, end_open}
-use Rattle.events.proofs.GroundRows.{events_first, ends_miss, ends_hit, ends_end}
+use Prim.Native.Nat.{ℕ}
+use borrow.Author.Tests.{tests}
+use Rattle.std.proofs.Common.{rules}
+use Rattle.std.proofs.lemmas.Iterator.{YieldsList-from_range}
+use Rattle.std.proofs.lemmas.Iterator.Search.{all_from_yields_List}
+use Rattle.events.specs.Held.{grounds_in, end_open, event_at}
+use Rattle.events.proofs.ByIndex.{all_events}
 use Rattle.events.proofs.openings.all_open.Goals as goal
 
-pub loop-i-init : goal.loop-i-init
-loop-i-init c = let a = c.args in
-    (omega arith, ap (all (end_open (grounds_in a.n a.rows.now))) (events_first a.moments.now a.events.now a.count))
-
-pub end_open-requires : goal.end_open-requires
-end_open-requires c = record { entries = omega arith; moment = omega arith; event = omega arith }
-
-pub returns-then-not-end_open : goal.returns-then-not-end_open
-returns-then-not-end_open c = let a = c.args in
-    let l = c.loop-i in
-    let o = c.end_open in
-    sym (ends_miss a.moments.now a.events.now a.count l.i (end_open (grounds_in a.n a.rows.now)) (omega arith) o.result o.ensures (c.if-not-end_open.true)) ∙ l.invariant.1
-
-pub loop-i-preserved : goal.loop-i-preserved
-loop-i-preserved c = let a = c.args in
-    let l = c.loop-i in
-    let o = c.end_open in
-    (omega arith, sym (ends_hit a.moments.now a.events.now a.count l.i (end_open (grounds_in a.n a.rows.now)) (omega arith) o.result o.ensures (c.if-not-end_open.false)) ∙ l.invariant.1)
-
 pub returns : goal.returns
-returns c = let a = c.args in
-    let l = c.loop-i in
-    sym (ends_end a.moments.now a.events.now a.count l.i (end_open (grounds_in a.n a.rows.now)) (omega arith)) ∙ l.invariant.1
+returns c =
+    let a = c.args in
+    all_from_yields_List (λ (i : ℕ). end_open (grounds_in a.n a.rows.now) (event_at a.waiting.now.moments.now a.waiting.now.rows.now i)) _ _ c.all.result c.all.ensures.ran
+    (YieldsList-from_range 0 a.waiting.now.count a.waiting.now.count refl (omega arith)) (λ x b q k. search (rules, tests))
+    ∙ sym (all_events a.waiting.now.count a.waiting.now.moments.now a.waiting.now.rows.now (end_open (grounds_in a.n a.rows.now)))

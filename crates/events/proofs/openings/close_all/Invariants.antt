@@ -6,5 +6,5 @@ use Rattle.events.specs.Held.{events_in, close_events}
 use Rattle.events.proofs.openings.close_all.Given as goal
 
 abbrev pub invariant-loop-i : goal.invariant-loop-i
-invariant-loop-i l = (l.i ≤ l.count) × (l.left ≤ 32) × (length l.rows ≡ length l.initial.rows)
-    × (close_events (events_in (l.count - l.i) (drop l.i l.moments) (drop (17 * l.i) l.events)) (record { count = l.left; rows = l.rows }) ≡ close_events (events_in l.count l.moments l.events) (record { count = l.n; rows = l.initial.rows }))
+invariant-loop-i l = (l.i ≤ l.waiting.count) × (l.left ≤ 32) × (length l.rows ≡ length l.initial.rows)
+    × (close_events (events_in (l.waiting.count - l.i) (drop l.i l.waiting.moments.now) (drop (17 * l.i) l.waiting.rows.now)) (record { count = l.left; rows = l.rows }) ≡ close_events (events_in l.waiting.count l.waiting.moments.now l.waiting.rows.now) (record { count = l.n; rows = l.initial.rows }))

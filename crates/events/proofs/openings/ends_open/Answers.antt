@@ -3,20 +3,12 @@ use native.Mathlib.Omega.{arith}
 use Rattle.events.proofs.OpenRows.{events_few, entries_few, ends_held}
 use Rattle.events.proofs.openings.ends_open.Goals as goal
 
-pub returns-then-n-gt-MAX_RUNNING : goal.returns-then-n-gt-MAX_RUNNING
-returns-then-n-gt-MAX_RUNNING c D gs es B k l few small e f =
-    let a = c.args in
-    let h = entries_few gs (record { count = a.n; rows = a.rows.now }) e few in
-    let g = c.if-n-gt-MAX_RUNNING.true in absurd (omega arith)
-
 pub returns-then-count-gt-MAX_EVENTS : goal.returns-then-count-gt-MAX_EVENTS
 returns-then-count-gt-MAX_EVENTS c D gs es B k l few small e f =
     let a = c.args in
-    let h = events_few es (record { count = a.count; moments = a.moments.now; rows = a.events.now }) f small in
-    let g = c.if-count-gt-MAX_EVENTS.true in absurd (omega arith)
-
-pub all_open-requires : goal.all_open-requires
-all_open-requires c = let p = c.requires in record { entries = omega arith; moments = omega arith; events = omega arith }
+    let h = entries_few gs (record { count = a.n; rows = a.rows.now }) e few in
+    let g = events_few es (record { count = a.count; moments = a.moments.now; rows = a.events.now }) f small in
+    absurd (omega (arith, c.then-count-gt-MAX_EVENTS.either))
 
 pub returns : goal.returns
 returns c D gs es B k l few small e f =

@@ -1,25 +1,20 @@
-use mathlib.Core.Path.{◌≡◌, sym, ◌∙◌}
+-- `entry_of` meets its contract: the chain goes over the entries by index. Assumes nothing.
+use mathlib.Core.Path.{refl, ◌∙◌}
 use native.Mathlib.Omega.{arith}
+use Prim.Native.Nat.{ℕ, ◌*◌}
 use lib.Dec.{eqb}
+use lib.ListN.{take, drop}
+use borrow.Author.Tests.{tests}
+use Rattle.std.proofs.Common.{rules}
+use Rattle.std.proofs.lemmas.Iterator.{YieldsList-from_range}
+use Rattle.std.proofs.lemmas.Iterator.Search.{position_from_yields_List}
 use Rattle.records.specs.Lists.{same_list}
-use Rattle.literals.proofs.KeyRows.{place_first, place_hit, place_miss, place_end}
+use Rattle.events.proofs.ByIndex.{place_rows}
 use Rattle.events.proofs.openings.entry_of.Goals as goal
 
-pub loop-k-init : goal.loop-k-init
-loop-k-init c = let a = c.args in (omega arith, place_first 17 (same_list eqb a.act.now) a.rows.now a.n)
-
-pub returns-then-same_ground : goal.returns-then-same_ground
-returns-then-same_ground c = let a = c.args in
-    let l = c.loop-k in
-    sym (place_hit 17 (same_list eqb a.act.now) a.rows.now a.n l.k (omega arith) (sym c.same_ground.ensures ∙ c.if-same_ground.true)) ∙ l.invariant.1
-
-pub loop-k-preserved : goal.loop-k-preserved
-loop-k-preserved c = let a = c.args in
-    let l = c.loop-k in
-    (omega arith, place_miss 17 (same_list eqb a.act.now) a.rows.now a.n l.k (omega arith) (sym c.same_ground.ensures ∙ c.if-same_ground.false) ∙ l.invariant.1)
-
 pub returns : goal.returns
-returns c = let a = c.args in
-    let l = c.loop-k in
-    let e : l.k ≡ a.n = omega arith in
-    sym e ∙ sym (place_end 17 (same_list eqb a.act.now) a.rows.now a.n l.k (omega arith)) ∙ l.invariant.1
+returns c =
+    let a = c.args in
+    position_from_yields_List (λ (k : ℕ). same_list eqb a.act.now (take 17 (drop (17 * k) a.rows.now))) _ _ c.position.result c.position.ensures.ran
+    (YieldsList-from_range 0 a.n a.n refl (omega arith)) (λ x b q k. search (rules, tests))
+    ∙ place_rows 17 a.n a.rows.now (same_list eqb a.act.now)

@@ -1,6 +1,20 @@
--- `is_open` meets its contract: the place is below n where an entry is this one. Assumes nothing.
-use Rattle.events.proofs.GroundRows.{place_open}
+-- `is_open` meets its contract: the chain goes over the entries by index. Assumes nothing.
+use mathlib.Core.Path.{refl, sym, ◌∙◌}
+use native.Mathlib.Omega.{arith}
+use Prim.Native.Nat.{ℕ, ◌*◌}
+use lib.Dec.{eqb}
+use lib.ListN.{take, drop}
+use borrow.Author.Tests.{tests}
+use Rattle.std.proofs.Common.{rules}
+use Rattle.std.proofs.lemmas.Iterator.{YieldsList-from_range}
+use Rattle.std.proofs.lemmas.Iterator.Search.{any_from_yields_List}
+use Rattle.records.specs.Lists.{same_list}
+use Rattle.events.proofs.ByIndex.{any_rows}
 use Rattle.events.proofs.openings.is_open.Goals as goal
 
 pub returns : goal.returns
-returns c = let a = c.args in place_open a.act.now a.rows.now a.n c.entry_of.result c.entry_of.ensures
+returns c =
+    let a = c.args in
+    any_from_yields_List (λ (k : ℕ). same_list eqb a.act.now (take 17 (drop (17 * k) a.rows.now))) _ _ c.any.result c.any.ensures.ran
+    (YieldsList-from_range 0 a.n a.n refl (omega arith)) (λ x b q k. search (rules, tests))
+    ∙ sym (any_rows 17 a.n a.rows.now (same_list eqb a.act.now))

@@ -1,23 +1,21 @@
--- `report::put_moment` meets its contract: four stores at the seam, for which there is room. Assumes nothing.
+-- `report::put_moment` meets its contract: four bytes at the seam, for which there is room. Assumes nothing.
+use mathlib.Core.Path.{refl, ap, ◌∙◌}
 use native.Mathlib.Omega.{arith}
-use lib.ListN.{length-set}
+use Rattle.std.proofs.lemmas.Slice.{put_mid-paste}
+use Rattle.literals.specs.Matching.{moment_number}
 use Rattle.judging.proofs.Reported.{report_room, names_room, reporting_more}
 use Rattle.judging.proofs.report.put_moment.Goals as goal
-
-pub bounds-report-at-then-at-report : goal.bounds-report-at-then-at-report
-bounds-report-at-then-at-report c = simp length-set (omega arith)
-
-pub bounds-report-at-then-at-report-2 : goal.bounds-report-at-then-at-report-2
-bounds-report-at-then-at-report-2 c = simp length-set (omega arith)
-
-pub bounds-report-at-then-at-report-3 : goal.bounds-report-at-then-at-report-3
-bounds-report-at-then-at-report-3 c = simp length-set (omega arith)
+use Rattle.judging.proofs.report.put_moment.Goals.{else-at-names-via-then-at-names+else-at-report, else-at-names-via-else-at-names}
 
 pub returns-then-at-report : goal.returns-then-at-report
-returns-then-at-report c rs rest r old given R a b m = reporting_more R a b m
-
-pub returns-else-at-report : goal.returns-else-at-report
-returns-else-at-report c rs rest r old given R a b m = absurd (omega (arith, report_room R))
+returns-then-at-report c rs rest r old given R a b m =
+    reporting_more R a b (c.from.ensures ∙ ap moment_number m) (put_mid-paste _ _ _ _ _ 4 c.copy_from_slice.ensures.after (omega arith) refl)
 
 pub returns-else-at-names : goal.returns-else-at-names
-returns-else-at-names c rs rest r old given R a b m = absurd (omega (arith, names_room R))
+returns-else-at-names c rs rest r old given R a b m =
+    let k = report_room R in
+    let l = names_room R in
+    elim c.else-at-names.branch [
+      | else-at-names-via-then-at-names+else-at-report w ↦ absurd (omega arith)
+      | else-at-names-via-else-at-names w ↦ absurd (omega arith)
+    ]

@@ -1,24 +1,17 @@
 -- `clears_once` meets its contract. Assumes nothing.
-use mathlib.Core.Path.{sym, ap, ◌∙◌}
-use native.Mathlib.Omega.{arith}
+use mathlib.Core.Path.{◌≡◌, ap, ◌∙◌}
+use mathlib.Core.Bool.{cond}
 use Rattle.literals.specs.declared.Role.{Role}
 use Rattle.literals.specs.Domain.{may_clear}
-use Rattle.literals.proofs.Arguments.{clears_none, clears_may, clears_not}
+use Rattle.literals.proofs.Arguments.{clears_told}
 use Rattle.literals.proofs.fields.clears_once.Goals as goal
-
-pub returns-then-n-eq0 : goal.returns-then-n-eq0
-returns-then-n-eq0 c = clears_none c.args.p.now c.count_from-n.ensures (omega arith)
-
-pub returns-then-may_clear : goal.returns-then-may_clear
-returns-then-may_clear c =
-    let e = ap (λ (r : Role). may_clear r.usage) c.role_of-sorted.ensures in
-    clears_may c.args.p.now
-    c.count_from-n.ensures
-    (omega arith) (sym e ∙ sym c.may_clear.ensures ∙ c.if-may_clear.true)
+use Rattle.literals.proofs.fields.clears_once.Goals.{then-may_clear, else-may_clear}
 
 pub returns : goal.returns
 returns c =
-    let e = ap (λ (r : Role). may_clear r.usage) c.role_of-sorted.ensures in
-    clears_not c.args.p.now
-    c.count_from-n.ensures
-    (omega arith) (sym e ∙ sym c.may_clear.ensures ∙ c.if-may_clear.false)
+    let most : c.if-may_clear.most ≡ cond c.may_clear.result 1 0 =
+    elim c.if-may_clear.branch [
+      | then-may_clear w ↦ w.most-is ∙ rw w.if-may_clear.true
+      | else-may_clear w ↦ w.most-is ∙ rw w.if-may_clear.false
+    ] in
+    clears_told c.args.p.now c.count_from.ensures (c.may_clear.ensures ∙ ap (λ (r : Role). may_clear r.usage) c.from.ensures) most

@@ -1,29 +1,48 @@
 -- `label_fault` meets its contract: a law of proofs/Bytes for each return. Assumes nothing.
-use Rattle.literals.proofs.Bytes.{second_counted, repeated_key, first_high, missing_key}
+use mathlib.Core.Path.{sym, ap, ◌∙◌}
+use mathlib.Core.Bool.{true, false}
+use lib.ListN.{drop}
+use Rattle.literals.specs.Faults.{told_stop}
+use native.Mathlib.Omega.{arith}
+use Rattle.literals.specs.Held.{again}
+use Rattle.literals.proofs.Bytes.{found_within, places_found, high_found, second_counted, repeated_key, first_high, missing_key}
 use Rattle.literals.proofs.fields.label_fault.Goals as goal
 
-pub returns-then-second-p : goal.returns-then-second-p
-returns-then-second-p c =
-    let start = c.args in
-    second_counted start.n start.p.now c.first_again-second.ensures c.if-second-p.true
+pub overflow_cast-result : goal.overflow_cast-result
+overflow_cast-result c = let p = c.args.p.now in let w = found_within c.args.n p (again true) (sym (places_found true p) ∙ sym c.in-Some.ensures) in omega arith
 
-pub returns-then-repeated-p : goal.returns-then-repeated-p
-returns-then-repeated-p c =
-    let first = c in
-    let start = first.args in
-    repeated_key start.n start.p.now first.first_again-second.ensures c.if-second-p.false c.first_again-repeated.ensures c.if-repeated-p.true
+pub overflow_add-result : goal.overflow_add-result
+overflow_add-result c = let p = c.args.p.now in let w = found_within c.args.n p (again true) (sym (places_found true p) ∙ sym c.in-Some.ensures) in omega arith
 
-pub returns-then-high-p : goal.returns-then-high-p
-returns-then-high-p c =
-    let second = c in
-    let first = second in
-    let start = first.args in
-    first_high start.n start.p.now first.first_again-second.ensures second.if-second-p.false second.first_again-repeated.ensures c.if-repeated-p.false c.first_high-high.ensures c.if-high-p.true
+pub overflow_cast-result-in-Some-first_again : goal.overflow_cast-result-in-Some-first_again
+overflow_cast-result-in-Some-first_again c =
+    let p = c.args.p.now in
+    let w = found_within c.args.n p (again false) (sym (places_found false p) ∙ sym c.in-Some-first_again.ensures) in omega arith
+
+pub overflow_add-result-in-Some-first_again : goal.overflow_add-result-in-Some-first_again
+overflow_add-result-in-Some-first_again c =
+    let p = c.args.p.now in
+    let w = found_within c.args.n p (again false) (sym (places_found false p) ∙ sym c.in-Some-first_again.ensures) in omega arith
+
+pub returns-in-Some : goal.returns-in-Some
+returns-in-Some c = let p = c.args.p.now in second_counted c.args.n p (sym (places_found true p) ∙ sym c.in-Some.ensures)
+
+pub returns-in-Some-first_again : goal.returns-in-Some-first_again
+returns-in-Some-first_again c =
+    let p = c.args.p.now in
+    repeated_key c.args.n p (sym (places_found true p) ∙ sym c.in_default.ensures) (sym (places_found false p) ∙ sym c.in-Some-first_again.ensures)
+
+pub returns-in-Some-first_high : goal.returns-in-Some-first_high
+returns-in-Some-first_high c =
+    let p = c.args.p.now in
+    first_high c.args.n p (sym (places_found true p) ∙ sym c.in_default.ensures) (sym (places_found false p) ∙ sym c.in_default-first_again.ensures)
+    (sym (high_found c.args.n (drop 1 p)) ∙ sym c.in-Some-first_high.ensures)
 
 pub returns : goal.returns
 returns c =
-    let second = c in
-    let first = second in
-    let start = first.args in
-    missing_key start.n start.p.now first.first_again-second.ensures second.if-second-p.false second.first_again-repeated.ensures c.if-repeated-p.false c.first_high-high.ensures c.if-high-p.false
-    first.requires.wrong
+    let p = c.args.p.now in
+    ap told_stop c.from.ensures
+    ∙ missing_key c.args.n p (sym (places_found true p) ∙ sym c.in_default.ensures)
+    (sym (places_found false p) ∙ sym c.in_default-first_again.ensures)
+    (sym (high_found c.args.n (drop 1 p)) ∙ sym c.in_default-first_high.ensures)
+    c.requires.wrong

@@ -1,7 +1,6 @@
 -- `label_fields` meets its contract: nothing is wrong with labels that fit. Assumes nothing.
 use mathlib.Core.Path.{sym, ◌∙◌}
 use mathlib.Core.List.{map}
-use native.Mathlib.Omega.{arith}
 use lib.ListN.{drop}
 use Rattle.literals.specs.Decode.{label_of}
 use Rattle.literals.proofs.Labels.{fit_passes}
@@ -11,9 +10,3 @@ pub returns-then-labels_fit : goal.returns-then-labels_fit
 returns-then-labels_fit c =
     let start = c.args in
     sym (fit_passes start.n (map label_of (drop 1 start.p.now)) (sym c.labels_fit.ensures ∙ c.if-labels_fit.true))
-
-pub label_fault-requires : goal.label_fault-requires
-label_fault-requires c = record { wrong = sym c.labels_fit.ensures ∙ c.if-labels_fit.false; short = omega arith }
-
-pub returns : goal.returns
-returns c = c.label_fault.ensures

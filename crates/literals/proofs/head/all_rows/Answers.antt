@@ -3,8 +3,5 @@ use native.Mathlib.Omega.{arith}
 use Rattle.literals.proofs.Heads.{all_room}
 use Rattle.literals.proofs.head.all_rows.Goals as goal
 
-pub returns-then-table-n : goal.returns-then-table-n
-returns-then-table-n c = record { fits = omega arith; number = λ D H. let n = c.literals_in-n.ensures.number D H.says in let r = all_room H in absurd (omega arith) }
-
-pub returns : goal.returns
-returns c = record { fits = omega arith; number = λ D H. c.literals_in-n.ensures.number D H.says }
+pub returns-else-n-table-clause-number : goal.returns-else-n-table-clause-number
+returns-else-n-table-clause-number c = λ D H. let n = c.literals_in-n.ensures.number D H.says in let r = all_room H in absurd (omega arith)

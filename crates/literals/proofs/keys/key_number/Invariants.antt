@@ -8,6 +8,3 @@ use Rattle.literals.proofs.keys.key_number.Given as goal
 abbrev pub invariant-loop-k : goal.invariant-loop-k
 invariant-loop-k l =
     (l.k ≤ keys_in l.head) × (keys_in l.head ≤ 6) × EightAt (tuple_filled (keys_in l.head) (component_row_in l.head l.c) (take 8 (drop l.at l.rows))) l.k l.word
-
-abbrev pub decreases-loop-k : goal.decreases-loop-k
-decreases-loop-k l = l.k

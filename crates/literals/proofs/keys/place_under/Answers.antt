@@ -1,36 +1,21 @@
-use native.Mathlib.Omega.{arith}
-use mathlib.Core.Path.{sym, ap, ◌∙◌}
+-- `place_under` meets its contract: the labels one by one. Assumes nothing.
+use mathlib.Core.Path.{refl}
+use Prim.Native.Nat.{◌+◌}
+use lib.ListN.{get_or}
+use Rattle.std.proofs.Common.{rules}
+use Rattle.std.proofs.lemmas.Iterator.{YieldsList-from_range}
+use Rattle.std.proofs.lemmas.Iterator.Search.{position_from_yields_List}
+use Rattle.records.specs.Lists.{below}
 use Rattle.literals.specs.Domain.{is_key}
 use Rattle.literals.specs.Decode.{label_of}
-use Rattle.literals.specs.Held.{place_under}
-use Rattle.literals.proofs.Indices.{position_hit, position_miss, position_end}
-use Rattle.literals.proofs.keys.place_under.Invariants.{stands}
+use Rattle.literals.specs.Held.{component_row_in, place_under}
+use Rattle.literals.proofs.Chains.{place_or}
 use Rattle.literals.proofs.keys.place_under.Goals as goal
 
-pub loop-i-init : goal.loop-i-init
-unfolding place_under
-loop-i-init c = (omega arith, omega arith)
-
-pub returns-then-is_key : goal.returns-then-is_key
-returns-then-is_key c =
-    let a = c.args in
-    let l = c.loop-i in
-    let e = position_hit (stands a.head.now a.c a.k) 6 l.i (omega arith) (sym (c.is_key.ensures ∙ ap (is_key c.args.k) (c.label_of-label.ensures ∙ ap label_of c.component_byte.ensures)) ∙ c.if-is_key.true) in
-    let i = l.invariant.1 in
-    omega arith
-
-pub loop-i-preserved : goal.loop-i-preserved
-loop-i-preserved c =
-    let a = c.args in
-    let l = c.loop-i in
-    let e = position_miss (stands a.head.now a.c a.k) 6 l.i (omega arith) (sym (c.is_key.ensures ∙ ap (is_key c.args.k) (c.label_of-label.ensures ∙ ap label_of c.component_byte.ensures)) ∙ c.if-is_key.false) in
-    let i = l.invariant.1 in
-    (omega arith, omega arith)
-
 pub returns : goal.returns
+unfolding place_under
 returns c =
     let a = c.args in
-    let l = c.loop-i in
-    let e = position_end (stands a.head.now a.c a.k) 6 l.i (omega arith) in
-    let i = l.invariant.1 in
-    omega arith
+    place_or (λ i. is_key a.k (label_of (get_or (component_row_in a.head.now a.c) (i + 1) 0))) (below 6) c.position.result
+    (position_from_yields_List (λ i. is_key a.k (label_of (get_or (component_row_in a.head.now a.c) (i + 1) 0))) _ _ c.position.result c.position.ensures.ran (YieldsList-from_range 0 6 6 refl refl) (λ x b q k. search rules))
+    c.unwrap_or.ensures

@@ -1,29 +1,26 @@
-use mathlib.Core.Path.{refl, sym, ap, ◌∙◌}
-use mathlib.Core.Bool.{Bool, ◌||◌}
-use Prim.Native.Nat.{◌*◌}
+-- `any_same` meets its contract: the numbers of the rows one by one. Assumes nothing.
+use mathlib.Core.Path.{◌≡◌, refl, ◌∙◌}
+use mathlib.Core.Bool.{Bool, false, ◌||◌}
+use Prim.Native.Nat.{ℕ, ◌*◌, ◌-◌, ◌<◌}
 use native.Mathlib.Omega.{arith}
 use lib.Dec.{eqb}
-use Rattle.records.specs.Lists.{same_list}
-use Rattle.literals.proofs.Rows.{word_is, found_step, found_end_lem}
+use lib.ListN.{get_or}
+use Rattle.std.proofs.Common.{rules}
+use Rattle.std.proofs.lemmas.Iterator.{YieldsList-from_range}
+use Rattle.std.specs.Int.{w64, from_le_bytes}
+use Rattle.std.specs.List.{fold}
+use Rattle.records.specs.Lists.{numbers_from}
+use Rattle.literals.specs.Held.{eight_bytes}
+use Rattle.literals.proofs.Chains.{fold_from_yields, found_any, word_among}
 use Rattle.literals.proofs.row.any_same.Goals as goal
-
-pub loop-i-init : goal.loop-i-init
-loop-i-init c = (omega arith, λ row W. refl)
-
-pub loop-i-preserved : goal.loop-i-preserved
-loop-i-preserved c =
-    let a = c.args in
-    let l = c.loop-i in (
-      omega arith,
-      λ row W.
-          let is = word_is row a.table.now (8 * l.i) W (omega arith) c.eight_at.ensures in
-          found_step (same_list eqb row) a.table.now a.to l.i (omega arith) l.found _
-          (c.found_or_equal-found.ensures ∙ ap (λ (b : Bool). l.found || b) (sym is))
-          ∙ l.invariant.1 row W,
-    )
 
 pub returns : goal.returns
 returns c =
     let a = c.args in
-    let l = c.loop-i in
-    λ row W. found_end_lem (same_list eqb row) a.table.now a.to l.i (omega arith) l.found ∙ l.invariant.1 row W
+    let e : c.fold.result ≡ fold (λ (found : Bool) (i : ℕ). found || eqb (from_le_bytes w64 (eight_bytes a.table.now (8 * i))) a.word) false (numbers_from a.from (a.to - a.from)) =
+    fold_from_yields (λ (found : Bool) (i : ℕ). found || eqb (from_le_bytes w64 (eight_bytes a.table.now (8 * i))) a.word) _ false c.fold.result c.fold.ensures.ran (YieldsList-from_range a.from a.to _ refl refl) (λ b x d q k. search rules) in
+    let b : (k : ℕ) → get_or a.table.now k 0 < 256 = λ k. omega (arith, c.type_inv.table k) in
+    λ row W.
+    e
+    ∙ found_any (λ i. eqb (from_le_bytes w64 (eight_bytes a.table.now (8 * i))) a.word) false (numbers_from a.from (a.to - a.from))
+    ∙ word_among row a.table.now W b a.from a.to c.requires.span c.requires.table

@@ -1,32 +1,18 @@
-use mathlib.Core.Path.{sym, ◌∙◌}
-use native.Mathlib.Omega.{arith}
-use Rattle.literals.proofs.Rows.{meet_miss, meet_hit, meet_end}
+-- `arguments_meet` meets its contract: the six bytes one by one. Assumes nothing.
+use mathlib.Core.Path.{◌≡◌, refl, ◌∙◌}
+use Prim.Native.Nat.{◌+◌}
+use lib.ListN.{get_or}
+use Rattle.std.proofs.Common.{rules}
+use Rattle.std.proofs.lemmas.Iterator.{YieldsList-from_range}
+use Rattle.std.proofs.lemmas.Iterator.Search.{all_from_yields_List}
+use Rattle.records.specs.Lists.{all, numbers_from}
+use Rattle.literals.specs.Held.{meet_byte}
+use Rattle.literals.proofs.Chains.{meet_listed}
 use Rattle.literals.proofs.row.arguments_meet.Goals as goal
-
-pub returns-then-not-bytes_meet : goal.returns-then-not-bytes_meet
-returns-then-not-bytes_meet c =
-    let back8 = c in
-    let loop = c.loop-k in
-    let a = back8.args in
-    sym (meet_miss a.x.now a.y.now a.i a.j loop.k (omega arith) (omega arith)
-    (omega arith)
-    (sym c.bytes_meet.ensures ∙ c.if-not-bytes_meet.true))
-    ∙ loop.invariant.1
-
-pub loop-k-preserved : goal.loop-k-preserved
-loop-k-preserved c =
-    let back8 = c in
-    let loop = c.loop-k in
-    let a = back8.args in (
-      omega arith,
-      sym (meet_hit a.x.now a.y.now a.i a.j loop.k (omega arith) (omega arith)
-          (omega arith)
-          (sym c.bytes_meet.ensures ∙ c.if-not-bytes_meet.false))
-          ∙ loop.invariant.1,
-    )
 
 pub returns : goal.returns
 returns c =
     let a = c.args in
-    sym (meet_end a.x.now a.y.now a.i a.j c.loop-k.k (omega arith) (omega arith) (omega arith))
-    ∙ c.loop-k.invariant.1
+    let e : c.all.result ≡ all (λ k. meet_byte (get_or a.x.now (a.i + k) 0) (get_or a.y.now (a.j + k) 0)) (numbers_from 2 6) =
+    all_from_yields_List (λ k. meet_byte (get_or a.x.now (a.i + k) 0) (get_or a.y.now (a.j + k) 0)) _ _ c.all.result c.all.ensures.ran (YieldsList-from_range 2 8 _ refl refl) (λ x b q k. search rules) in
+    e ∙ meet_listed a.x.now a.y.now a.i a.j c.requires.one c.requires.other

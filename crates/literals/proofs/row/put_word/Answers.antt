@@ -1,12 +1,11 @@
--- `put_word` meets its contract: the bytes of its first half, then those of the other. Assumes nothing.
-use mathlib.Core.Path.{refl}
+-- `put_word` meets its contract: the row of a number is its bytes. Assumes nothing.
+use mathlib.Core.Path.{sym, ◌∙◌}
 use native.Mathlib.Omega.{arith}
-use Rattle.literals.proofs.Rows.{put_both}
+use Rattle.std.proofs.lemmas.Slice.{put_mid-paste}
+use Rattle.literals.proofs.Chains.{row_bytes}
 use Rattle.literals.proofs.row.put_word.Goals as goal
 
 pub returns : goal.returns
 returns c =
-    let back8 = c in
-    let a = back8.args in
-    λ row W. put_both a.out.now _ _ row a.at (omega arith) c.put_four.ensures
-    c.put_four-2.ensures refl refl W
+    λ row W.
+    put_mid-paste _ _ _ _ row 8 (c.copy_from_slice.ensures.after ∙ c.to_le_bytes.ensures ∙ row_bytes row W) (omega arith) (sym W.long)

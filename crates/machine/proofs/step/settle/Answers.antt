@@ -26,9 +26,8 @@ put_bytes-requires c =
 
 pub returns-then-n-held : goal.returns-then-n-held
 returns-then-n-held c =
-    let back8 = c in
-    let a = back8.args in
-    let p = back8.requires in
+    let a = c.args in
+    let p = c.requires in
     let rows : List ℕ = take (8 * a.n) a.rows.now in
     let more : ℕ = 8 * a.held - 8 * a.n in
     let l = length-take-le (8 * a.n) a.rows.now p.rows in
@@ -39,8 +38,7 @@ returns-then-n-held c =
 
 pub returns-else-n-held : goal.returns-else-n-held
 returns-else-n-held c =
-    let back8 = c in
-    let a = back8.args in
+    let a = c.args in
     let rows : List ℕ = take (8 * a.n) a.rows.now in
     let none : 0 ≡ 8 * a.held - 8 * a.n = omega arith in
     c.put_bytes.ensures ∙ paste_front rows a.work.now _ refl

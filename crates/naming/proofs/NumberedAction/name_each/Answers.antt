@@ -65,8 +65,7 @@ loop-class-preserved c =
           λ before old D a i N M t E g.
           let h : l.class < length (classes D a) = omega arith in
           named_next D a i (classes D a) before l.class h
-          (called.ensures.named before _ old D a i (l.invariant.named before old D a i N M t E g) t (named.start D a M h)
-          (λ k. named.end D a M (E k) h k (t ∙ k)));
+          (called.ensures.named before _ old D a i (l.invariant.named before old D a i N M t E g) (named D a M t E h));
     }
 
 pub shape_of-names : goal.shape_of-names

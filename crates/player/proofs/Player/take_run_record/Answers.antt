@@ -1,13 +1,15 @@
 -- `Player::take_run_record` meets its contract: each kind by its function. Assumes nothing.
-use mathlib.Core.Path.{refl}
+use mathlib.Core.Path.{refl, ap}
 use native.Mathlib.Omega.{arith}
-use Rattle.run_semantics.specs.RunFile.{objects_record, fact_record, event_record, end_record, other_record}
-use Rattle.run_semantics.specs.Play.{begin}
-use Rattle.player.specs.Held.{whole_in}
-use Rattle.player.proofs.PlayTurns.{stops_at, kind_16, kind_17, kind_18, kind_20, kind_other}
-use Rattle.player.proofs.PlayTurns.{of_objects, of_fact, of_event, of_end, of_other}
-use Rattle.player.proofs.NotedTurns.{noted_of, noted_objects, noted_fact_record, noted_event, noted_end, noted_other}
-use Rattle.player.proofs.Readied.{facts_held, facts_room, room_now, waits_few, stands_begun}
+use Rattle.std.specs.Prelude.{Err}
+use Rattle.run_semantics.specs.RunFile.{objects_record, fact_record, event_record, step_record, end_record}
+use Rattle.run_semantics.specs.Play.{begin, close_step, play_record}
+use Rattle.run_fields.specs.Kinds.{run_kind}
+use Rattle.player.specs.Held.{whole_in, turn_in}
+use Rattle.player.proofs.Sound.{begun_tally}
+use Rattle.player.proofs.PlayTurns.{ending_some, stopped_unless, of_objects, of_fact, of_event, of_step, of_end, stop_is, step_some, step_passed}
+use Rattle.player.proofs.NotedTurns.{noted_ended, noted_of, noted_begun, noted_objects, noted_fact_record, noted_event, noted_step_record, noted_end}
+use Rattle.player.proofs.Readied.{facts_held, facts_room, room_now, waits_few, step_shape, stands_begun}
 use Rattle.player.proofs.Player.take_run_record.Goals as goal
 
 pub take_fact-requires : goal.take_fact-requires
@@ -18,75 +20,120 @@ begin-begun-requires c = let p = c.requires in record { few = facts_held p.playa
 
 pub take_event-requires : goal.take_event-requires
 take_event-requires c =
-    let back8 = c in
-    let a = back8.args in
-    let p = back8.requires in
-    let b = c.begin-begun in
-    record { few = waits_few p.playable (whole_in b.result a.agenda.now) (λ D p old. b.ensures D p a.agenda.now old); agenda = p.agenda }
-
-pub begin-begun-requires-in-20 : goal.begin-begun-requires-in-20
-begin-begun-requires-in-20 c = let p = c.requires in record { few = facts_held p.playable; facts = facts_room p.playable }
-
-pub returns-in-16 : goal.returns-in-16
-returns-in-16 c =
     let a = c.args in
-    let k = kind_16 a.kind c.in-16.is in record {
-      leads = λ D q old H st noted.
-          of_objects D q a.kind a.p.now a.behind _ _ old k (c.take_objects.ensures D q a.agenda.now _ old st);
-      noted = λ D q old H st noted.
-          noted_of D _ _ q a.p.now a.behind a.kind objects_record k (noted_objects D _ _ q a.p.now a.behind st.sound noted);
-    }
-
-pub returns-in-17 : goal.returns-in-17
-returns-in-17 c =
-    let back8 = c in
-    let a = back8.args in
-    let l = c.take_fact in
-    let k = kind_17 a.kind c.in-17.is in record {
-      leads = λ D q old H st noted.
-          of_fact D q a.kind a.p.now a.behind _ _ old k (l.ensures.leads D q a.agenda.now old H st noted);
-      noted = λ D q old H st noted.
-          noted_of D _ _ q a.p.now a.behind a.kind fact_record k
-          (noted_fact_record D _ _ q a.p.now a.behind (l.ensures.noted D q a.agenda.now old H st noted));
-    }
-
-pub returns-in-18 : goal.returns-in-18
-returns-in-18 c =
-    let back8 = c in
-    let a = back8.args in
-    let p = back8.requires in
+    let p = c.requires in
     let b = c.begin-begun in
-    let k = kind_18 a.kind c.in-18.is in record {
+    record { few = waits_few p.playable (whole_in b.result a.agenda.now) (λ D p old. b.ensures D p a.agenda.now old); agenda = p.memory.agenda_length }
+
+pub begin-begun-requires-in-Step : goal.begin-begun-requires-in-Step
+begin-begun-requires-in-Step c = let p = c.requires in record { few = facts_held p.playable; facts = facts_room p.playable }
+
+pub begin-begun-requires-in-End : goal.begin-begun-requires-in-End
+begin-begun-requires-in-End c = let p = c.requires in record { few = facts_held p.playable; facts = facts_room p.playable }
+
+pub returns-in-Objects : goal.returns-in-Objects
+returns-in-Objects c =
+    let a = c.args in
+    let k = ap run_kind c.in-Objects.is in record {
       leads = λ D q old H st noted.
-          let s = stands_begun p.playable (whole_in b.result a.agenda.now) (λ D p old. b.ensures D p a.agenda.now old) D H q old st
-          noted in
-          of_event D q a.kind a.p.now a.behind _ _ old k (c.take_event.ensures D (begin D q) _ old H s);
+          of_objects D q (run_kind a.kind) a.p.now a.behind _ _ old k (c.take_objects.ensures D q a.agenda.now _ old st);
       noted = λ D q old H st noted.
-          noted_of D _ _ q a.p.now a.behind a.kind event_record k (noted_event D _ _ q a.p.now a.behind noted);
+          noted_of D _ _ q a.p.now a.behind (run_kind a.kind) objects_record k (noted_objects D _ _ q a.p.now a.behind st.sound noted);
     }
 
-pub returns-in-20 : goal.returns-in-20
-returns-in-20 c =
-    let back8 = c in
-    let a = back8.args in
-    let p = back8.requires in
-    let b = c.begin-begun-in-20 in
-    let k = kind_20 a.kind c.in-20.is in record {
+pub returns-in-Fact : goal.returns-in-Fact
+returns-in-Fact c =
+    let a = c.args in
+    let l = c.take_fact in
+    let k = ap run_kind c.in-Fact.is in record {
       leads = λ D q old H st noted.
-          let s = stands_begun p.playable (whole_in b.result a.agenda.now) (λ D p old. b.ensures D p a.agenda.now old) D H q old st
-          noted in
-          of_end D q a.kind a.p.now a.behind _ _ old k (c.take_end.ensures D (begin D q) a.agenda.now _ old s);
+          of_fact D q (run_kind a.kind) a.p.now a.behind _ _ old k (l.ensures.leads D q a.agenda.now old H.says st noted);
       noted = λ D q old H st noted.
-          noted_of D _ _ q a.p.now a.behind a.kind end_record k (noted_end D _ _ q a.p.now a.behind noted);
+          noted_of D _ _ q a.p.now a.behind (run_kind a.kind) fact_record k
+          (noted_fact_record D _ _ q a.p.now a.behind (l.ensures.noted D q a.agenda.now old H.says st noted));
     }
+
+pub returns-in-Event : goal.returns-in-Event
+returns-in-Event c =
+    let a = c.args in
+    let p = c.requires in
+    let b = c.begin-begun in
+    let k = ap run_kind c.in-Event.is in record {
+      leads = λ D q old H st noted.
+          let s = stands_begun p.playable (whole_in b.result a.agenda.now) (λ D p old. b.ensures D p a.agenda.now old) D H.says q old st
+          noted in
+          of_event D q (run_kind a.kind) a.p.now a.behind _ _ old k (c.take_event.ensures D (begin D q) _ old H.says s);
+      noted = λ D q old H st noted.
+          noted_of D _ _ q a.p.now a.behind (run_kind a.kind) event_record k (noted_event D _ _ q a.p.now a.behind noted);
+    }
+
+pub returns-in-End : goal.returns-in-End
+returns-in-End c =
+    let a = c.args in
+    let p = c.requires in
+    let b = c.begin-begun-in-End in
+    let k = ap run_kind c.in-End.is in record {
+      leads = λ D q old H st noted.
+          let s = stands_begun p.playable (whole_in b.result a.agenda.now) (λ D p old. b.ensures D p a.agenda.now old) D H.says q old st
+          noted in
+          of_end D q (run_kind a.kind) a.p.now a.behind _ _ old k (c.take_end.ensures D (begin D q) a.agenda.now _ old s);
+      noted = λ D q old H st noted.
+          noted_of D _ _ q a.p.now a.behind (run_kind a.kind) end_record k (noted_end D _ _ q a.p.now a.behind noted);
+    }
+
+pub returns-in-Err : goal.returns-in-Err
+returns-in-Err c =
+    let a = c.args in
+    let p = c.requires in
+    let b = c.begin-begun-in-Step in
+    let begun = whole_in b.result a.agenda.now in
+    let e = c.in-Err in
+    let over = c.stopped in
+    let k = ap run_kind c.in-Step.is in record {
+      leads = λ D q old H st noted.
+          let s = stands_begun p.playable begun (λ D p old. b.ensures D p a.agenda.now old) D H.says q old st noted in
+          of_step D q (run_kind a.kind) _ a.behind _ a.work.now old k
+          (stopped_unless D (begin D q) b.result a.agenda.now a.work.now old s over.result e.stop over.ensures _ (close_step D (begin D q) a.behind)
+          (stop_is D q begun a.work.now old s _ _ e.ensures (run_kind a.kind) k a.behind));
+      noted = λ D q old H st noted.
+          let s = stands_begun p.playable begun (λ D p old. b.ensures D p a.agenda.now old) D H.says q old st noted in
+          noted_ended D _ _ (play_record D q (run_kind a.kind) _ a.behind) (turn_in (Err over.result) a.agenda.now)
+          a.work.now old
+          (of_step D q (run_kind a.kind) _ a.behind _ a.work.now old k
+          (stopped_unless D (begin D q) b.result a.agenda.now a.work.now old s over.result e.stop over.ensures _ (close_step D (begin D q) a.behind)
+          (stop_is D q begun a.work.now old s _ _ e.ensures (run_kind a.kind) k a.behind)))
+          (ending_some _);
+    }
+
+pub take_step-requires : goal.take_step-requires
+take_step-requires c =
+    let a = c.args in
+    let p = c.requires in
+    let b = c.begin-begun-in-Step in
+    let q = step_shape p.playable (whole_in b.result a.agenda.now) (λ D p old. b.ensures D p a.agenda.now old) in
+    let at = q.2 in
+    let further = p.further in
+    record { closable = q.0; steps = q.1; further = omega arith; memory = p.memory }
 
 pub returns-in_default : goal.returns-in_default
 returns-in_default c =
     let a = c.args in
-    let r = c.in_default.in_default-own.rest in
-    let k = kind_other a.kind r.0.0.0.1 r.0.0.1 r.0.1 c.requires.other r.1 in record {
+    let p = c.requires in
+    let b = c.begin-begun-in-Step in
+    let begun = whole_in b.result a.agenda.now in
+    let x = c.in_default in
+    let k = ap run_kind c.in-Step.is in
+    let l = c.take_step in record {
       leads = λ D q old H st noted.
-          of_other D q a.kind a.p.now a.behind _ _ old k
-          (stops_at D q (whole_in a.self a.agenda.now) a.work.now old st 50 50 refl (λ z. omega arith));
-      noted = λ D q old H st noted. noted_of D _ _ q a.p.now a.behind a.kind other_record k (noted_other D _ _ q a.p.now a.behind);
+          let s = stands_begun p.playable begun (λ D p old. b.ensures D p a.agenda.now old) D H.says q old st noted in
+          step_passed D q begun a.work.now old s _ 0 x.ensures (run_kind a.kind) k a.behind refl _ _
+          (l.ensures.leads D (begin D q) old H s
+          (step_some D q begun a.work.now old s _ 0 x.ensures (run_kind a.kind) k a.behind refl)
+          (begun_tally D q) (noted_begun D _ _ q noted));
+      noted = λ D q old H st noted.
+          let s = stands_begun p.playable begun (λ D p old. b.ensures D p a.agenda.now old) D H.says q old st noted in
+          noted_of D _ _ q _ a.behind (run_kind a.kind) step_record k
+          (noted_step_record D _ _ q _ _ (l.ensures.noted D (begin D q) old H s
+          (step_some D q begun a.work.now old s _ 0 x.ensures (run_kind a.kind) k a.behind refl)
+          (begun_tally D q) (noted_begun D _ _ q noted)));
     }

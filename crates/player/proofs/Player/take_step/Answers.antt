@@ -1,75 +1,46 @@
 -- `Player::take_step` meets its contract: a step without events, one that is refused, or one that is made. Assumes nothing.
-use mathlib.Core.Path.{sym, subst}
+use mathlib.Core.Path.{refl, sym, subst}
 use mathlib.Core.List.{List}
 use Prim.Native.Nat.{ℕ}
+use Rattle.std.specs.Prelude.{Err}
 use Rattle.run_semantics.specs.Play.{run_objects, close_step}
-use Rattle.player.specs.Held.{whole_in, PlayLeadsTo}
-use Rattle.player.proofs.PlayTurns.{stepped_on, some_object, close_stops, close_on, state_is, weight_under}
+use Rattle.run_semantics.proofs.Numbers.{numbered_stop}
+use Rattle.machine.specs.Held.{state_in, StepHeld}
+use Rattle.player.specs.Held.{whole_in, turn_in, PlayLeadsTo}
+use Rattle.player.proofs.PlayTurns.{stepped_on, some_object, close_stopped, close_on, state_is, weight_under}
 use Rattle.player.proofs.NotedTurns.{noted_closed}
 use Rattle.player.proofs.Player.take_step.Goals as goal
 
-pub take_rest-requires : goal.take_rest-requires
-take_rest-requires c =
-    let back8 = c in
-    let p = back8.requires in
-    record { closable = p.closable; steps = p.steps; further = p.further; memory = p.memory; none = c.if-state-eq0.true }
-
-pub returns-then-state-eq0 : goal.returns-then-state-eq0
-returns-then-state-eq0 c =
-    let e = c.take_rest.ensures in
-    record { leads = λ D q old H st n b noted. e.leads D q old H st b noted; noted = λ D q old H st n b noted. e.noted D q old H st b noted }
-
-pub step-closed-requires : goal.step-closed-requires
-step-closed-requires c =
-    let back8 = c in
-    let p = back8.requires in record { closable = p.closable; agenda = p.memory.agenda_length; scratch = p.memory.scratch_length }
-
-pub returns-then-stop-ne0 : goal.returns-then-stop-ne0
-returns-then-stop-ne0 c =
-    let back8 = c in
-    let back16 = back8 in
-    let a = back16.args in
-    let player = whole_in a.self a.agenda.now in
-    let l = c.step-closed in record {
+pub returns-in-Ok : goal.returns-in-Ok
+returns-in-Ok c =
+    let a = c.args in
+    let l = c.in-Ok in record {
       leads = λ D q old H st n b noted.
           let leaves = l.ensures.leaves D (run_objects q) q.state q.waiting old
           (record { domain = H; some = some_object q n; kept = st.sound.kept; state_is = state_is D q st; facts_are = st.memory })
           (weight_under D q st b) noted in
-          subst (λ (t : List ℕ). PlayLeadsTo (close_step D q a.behind)
-          (record { number = l.result.number; player = whole_in a.self t })
-          l.new.work old) (sym (l.ensures.refused c.if-stop-ne0.true))
-          (close_stops D q a.behind player a.work.now old st l.result.number _ l.result.weight _ leaves c.if-stop-ne0.true);
+          close_on D q a.behind (whole_in a.self a.agenda.now) a.work.now old st 0 _ l.closed.weight _ leaves refl _
+          (stepped_on a.self _ a.behind l.closed.state l.closed.weight c.step.new.agenda c.stepped.ensures);
       noted = λ D q old H st n b noted.
-          let leaves = l.ensures.leaves D (run_objects q) q.state q.waiting old
-          (record { domain = H; some = some_object q n; kept = st.sound.kept; state_is = state_is D q st; facts_are = st.memory })
-          (weight_under D q st b) noted in
-          noted_closed D _ _ q a.behind l.result.number leaves.number_is (λ z. absurd (c.if-stop-ne0.true z));
+          let held : StepHeld D (run_objects q) q.state q.waiting a.head.now a.table.now (state_in a.self.state a.agenda.now) a.work.now old =
+          record { domain = H; some = some_object q n; kept = st.sound.kept; state_is = state_is D q st; facts_are = st.memory } in
+          let leaves = l.ensures.leaves D (run_objects q) q.state q.waiting old held (weight_under D q st b) noted in
+          noted_closed D _ _ q a.behind 0 leaves.number_is (λ k. l.ensures.noted D (run_objects q) q.state q.waiting old held noted);
     }
 
-pub stepped-requires : goal.stepped-requires
-stepped-requires c =
-    let back8 = c in
-    let back16 = back8 in
-    let p = back16.requires in record { steps = p.steps; further = p.further }
-
-pub returns : goal.returns
-returns c =
-    let back8 = c in
-    let back16 = back8 in
-    let a = back16.args in
-    let player = whole_in a.self a.agenda.now in
-    let l = back8.step-closed in record {
+pub returns-in-Err : goal.returns-in-Err
+returns-in-Err c =
+    let a = c.args in
+    let e = c.in-Err in record {
       leads = λ D q old H st n b noted.
-          let leaves = l.ensures.leaves D (run_objects q) q.state q.waiting old
+          let leaves = e.ensures.leaves D (run_objects q) q.state q.waiting old
           (record { domain = H; some = some_object q n; kept = st.sound.kept; state_is = state_is D q st; facts_are = st.memory })
           (weight_under D q st b) noted in
-          close_on D q a.behind player a.work.now old st l.result.number _ l.result.weight _ leaves c.if-stop-ne0.false _
-          (stepped_on a.self _ a.behind l.result.state l.result.weight l.new.agenda c.stepped.ensures);
+          subst (λ (t : List ℕ). PlayLeadsTo (close_step D q a.behind) (turn_in (Err c.stopped.result) t) c.step.new.work old) (sym e.ensures.refused)
+          (close_stopped D q a.behind a.self a.agenda.now a.work.now old st c.stopped.result e.stop c.stopped.ensures _ _ _ leaves);
       noted = λ D q old H st n b noted.
-          let leaves = l.ensures.leaves D (run_objects q) q.state q.waiting old
+          let leaves = e.ensures.leaves D (run_objects q) q.state q.waiting old
           (record { domain = H; some = some_object q n; kept = st.sound.kept; state_is = state_is D q st; facts_are = st.memory })
           (weight_under D q st b) noted in
-          noted_closed D _ _ q a.behind l.result.number leaves.number_is
-          (λ z. l.ensures.noted D (run_objects q) q.state q.waiting old
-          (record { domain = H; some = some_object q n; kept = st.sound.kept; state_is = state_is D q st; facts_are = st.memory }) noted z);
+          noted_closed D _ _ q a.behind _ leaves.number_is (λ k. absurd (numbered_stop e.stop k));
     }

@@ -5,8 +5,7 @@ use Rattle.player.proofs.play.play.Goals as goal
 
 pub returns : goal.returns
 returns c =
-    let back8 = c in
-    let args = back8.args in
+    let args = c.args in
     let d = args.domain.now in
     let r = args.run.now in
     let w = args.work.now in

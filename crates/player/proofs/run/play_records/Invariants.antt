@@ -14,11 +14,11 @@ use Rattle.player.specs.Held.{whole_in}
 use Rattle.player.proofs.PlayLoop.{Loop}
 use Rattle.player.proofs.run.play_records.Given as goal
 
-abbrev pub invariant-loop-number : goal.invariant-loop-number
-invariant-loop-number l =
+abbrev pub invariant-loop-next : goal.invariant-loop-next
+invariant-loop-next l =
     (length l.work ≡ length l.initial.work) × (length l.agenda ≡ length l.initial.agenda) × (length l.scratch ≡ length l.initial.scratch)
     × ((D : Domain) (old : List ℕ) → Held D l.head l.table → l.initial.work ≡ over (held_bytes []) old → l.initial.index ≡ replicate fact_index 0
-    → l.initial.agenda ≡ replicate agenda_bytes 0 → Loop D l.head l.run old (whole_in l.turn.player l.agenda) l.work l.index)
+    → l.initial.agenda ≡ replicate agenda_bytes 0 → Loop D l.head l.run old (whole_in l.player l.agenda) l.work l.index)
 
-abbrev pub decreases-loop-number : goal.decreases-loop-number
-decreases-loop-number l = length l.run - l.turn.player.at
+abbrev pub decreases-loop-next : goal.decreases-loop-next
+decreases-loop-next l = length l.run - l.player.at

@@ -9,9 +9,8 @@ use Rattle.player.proofs.run.play_run.Goals as goal
 
 pub play_records-requires : goal.play_records-requires
 play_records-requires c =
-    let back8 = c in
-    let old = back8.args.work.now in
-    let p = back8.requires in
+    let old = c.args.work.now in
+    let p = c.requires in
     let put = c.put_bytes in
     let long = put.auto.out in
     let room = p.room in
@@ -19,8 +18,6 @@ play_records-requires c =
 
 pub returns : goal.returns
 returns c D H =
-    let back8 = c in
-    let back16 = back8 in
-    let old = back16.args.work.now in
+    let old = c.args.work.now in
     c.play_records.ensures D old H
-    (cleared old _ back8.put_bytes.ensures)
+    (cleared old _ c.put_bytes.ensures)

@@ -1,18 +1,25 @@
 -- `count_of` meets its contract. Assumes nothing.
-use mathlib.Core.Path.{sym, ◌∙◌}
-use native.Mathlib.Omega.{arith}
-use Rattle.player.proofs.TrackCalls.{count_other, count_stopped, count_passed}
+use mathlib.Core.Path.{◌≡◌, sym, ◌∙◌}
+use mathlib.Core.Bool.{not}
+use Rattle.std.proofs.Common.{rules}
+use Rattle.records.proofs.Lists.{not_false, not_true}
+use Rattle.run_semantics.proofs.Numbers.{numbered_stop}
+use Rattle.player.proofs.TrackCalls.{is_objects, objects_number, count_other, count_stopped, count_passed}
 use Rattle.player.proofs.track.count_of.Goals as goal
 
-pub returns-then-kind-ne16 : goal.returns-then-kind-ne16
-returns-then-kind-ne16 c = count_other c.args.kind c.args.p.now c.if-kind-ne16.true
+pub returns-then-ne-clause-is : goal.returns-then-ne-clause-is
+returns-then-ne-clause-is c =
+    let a = c.args in
+    let t = c.try_from in
+    let other : c.ne.result ≡ not (is_objects t.result) = search rules in
+    count_other a.kind a.p.now (sym (objects_number a.kind t.result t.ensures) ∙ not_true _ (sym other ∙ c.if-ne.true))
 
-pub returns-then-objects_stop-ne0 : goal.returns-then-objects_stop-ne0
-returns-then-objects_stop-ne0 c = count_stopped c.args.kind c.args.p.now (λ z. c.if-objects_stop-ne0.true (c.objects_stop.ensures.is ∙ z))
+pub returns-in-Ok-clause-is : goal.returns-in-Ok-clause-is
+returns-in-Ok-clause-is c =
+    let a = c.args in
+    let t = c.try_from in
+    let other : c.ne.result ≡ not (is_objects t.result) = search rules in
+    count_passed a.kind a.p.now (sym (objects_number a.kind t.result t.ensures) ∙ not_false _ (sym other ∙ c.if-ne.false)) (sym c.in-Ok.ensures.is)
 
-pub bounds-p-0 : goal.bounds-p-0
-bounds-p-0 c = let f = c.objects_stop.ensures.fits c.if-objects_stop-ne0.false in let l = f.0 in omega arith
-
-pub returns : goal.returns
-returns c = count_passed c.args.kind c.args.p.now
-    c.if-kind-ne16.false (sym c.objects_stop.ensures.is ∙ c.if-objects_stop-ne0.false)
+pub returns-in-Err-clause-is : goal.returns-in-Err-clause-is
+returns-in-Err-clause-is c = count_stopped c.args.kind c.args.p.now (λ z. numbered_stop _ (c.in-Err.ensures.is ∙ z))

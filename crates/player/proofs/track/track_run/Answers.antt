@@ -6,7 +6,8 @@ use native.Mathlib.Omega.{arith}
 use lib.ListN.{length-replicate}
 use Rattle.events.specs.Held.{agenda_bytes}
 use Rattle.run_semantics.specs.Play.{play_run}
-use Rattle.player.specs.declared.run.Ended.{Ended}
+use Rattle.run_semantics.proofs.Numbers.{numbered_stop}
+use Rattle.player.specs.Held.{WholeEnd}
 use Rattle.player.proofs.Sound.{kept_run}
 use Rattle.player.proofs.PlayLoop.{cleared}
 use Rattle.player.proofs.TrackCalls.{stopped_answer, early_answer, total_answer, end_rows}
@@ -15,42 +16,37 @@ use Rattle.player.proofs.track.track_run.Goals as goal
 pub put_zeros-requires : goal.put_zeros-requires
 put_zeros-requires c = let r = c.requires.room in omega arith
 
-pub returns-then-stop-ne0 : goal.returns-then-stop-ne0
-returns-then-stop-ne0 c D H wf =
-    let back8 = c in
-    let instance-stop = c.instance_stop-stop in
-    let a = back8.args in
-    stopped_answer D a.instance.now a.run.now instance-stop.result (instance-stop.ensures D H.says)
-    c.if-stop-ne0.true _
+pub returns-in-Err : goal.returns-in-Err
+returns-in-Err c D H wf =
+    let a = c.args in
+    let e = c.in-Err in
+    let n = c.number in
+    stopped_answer D a.instance.now a.run.now n.result (n.ensures ∙ e.ensures D H.says) (λ z. numbered_stop e.stop (sym n.ensures ∙ z)) _
     a.work.now (cleared a.work.now _ c.put_zeros.ensures)
 
 pub play_run-ended-requires : goal.play_run-ended-requires
 play_run-ended-requires c =
-    let back8 = c in
-    let p = back8.requires in record { domain = p.domain; room = p.room; agenda = refl }
+    let p = c.requires in record { domain = p.domain; room = p.room; agenda = refl }
 
 pub returns-then-not-ended : goal.returns-then-not-ended
 returns-then-not-ended c D H wf =
-    let back8 = c in
     let play-run = c.play_run-ended in
-    let a = back8.args in
+    let a = c.args in
     let e = play-run.ensures D H in
-    let z = sym (back8.instance_stop-stop.ensures D H.says) ∙ back8.if-stop-ne0.false in
+    let z = sym (c.in_default.ensures D H.says) in
     early_answer D a.instance.now a.run.now z play-run.result e.0
     (not_true _ c.if-not-ended.true) c.answer_by.result
     (c.answer_by.ensures (play_run D a.run.now) e.0) _ a.work.now e.1
 
 pub total_of-total-requires : goal.total_of-total-requires
 total_of-total-requires c =
-    let back8 = c in
-    let back16 = back8 in
     let play-run = c.play_run-ended in
-    let a = back16.args in
-    let p = back16.requires in
+    let a = c.args in
+    let p = c.requires in
     let D = p.domain.0 in
     let H = p.domain.1 in
     let e = play-run.ensures D H in
-    let n = ap (λ (x : Ended). x.facts) e.0 in
+    let n = ap (λ (x : WholeEnd). x.facts) e.0 in
     let k = (kept_run D H.says.bounded a.run.now).1.facts_few in
     let room = p.room in
     let l = play-run.auto.work in record {
@@ -62,17 +58,14 @@ total_of-total-requires c =
 
 pub returns : goal.returns
 returns c D H wf =
-    let back8 = c in
-    let back16 = back8 in
-    let play-run = back8.play_run-ended in
+    let play-run = c.play_run-ended in
     let total_of = c.total_of-total in
-    let a = back16.args in
+    let a = c.args in
     let e = play-run.ensures D H in
     let o = play_run D a.run.now in
-    let z = sym (back8.instance_stop-stop.ensures D H.says)
-    ∙ back8.if-stop-ne0.false in
+    let z = sym (c.in_default.ensures D H.says) in
     let k = (kept_run D H.says.bounded a.run.now).1 in
-    let n = ap (λ (x : Ended). x.facts) e.0 in
+    let n = ap (λ (x : WholeEnd). x.facts) e.0 in
     total_answer D a.instance.now a.run.now z play-run.result e.0 (not_false _ c.if-not-ended.false)
     c.answer_by-2.result
     (c.answer_by-2.ensures o e.0) total_of.result

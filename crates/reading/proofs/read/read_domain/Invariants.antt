@@ -4,8 +4,8 @@ use lib.ListN.{length}
 use Rattle.reading.proofs.Turns.{Loop}
 use Rattle.reading.proofs.read.read_domain.Given as goal
 
-abbrev pub invariant-loop-progress : goal.invariant-loop-progress
-invariant-loop-progress l = Loop l.s l.initial.table l.progress l.head l.table
+abbrev pub invariant-loop-next : goal.invariant-loop-next
+invariant-loop-next l = Loop l.s l.initial.table l.progress l.head l.table
 
-abbrev pub decreases-loop-progress : goal.decreases-loop-progress
-decreases-loop-progress l = length l.s - l.progress.at
+abbrev pub decreases-loop-next : goal.decreases-loop-next
+decreases-loop-next l = length l.s - l.progress.at

@@ -5,12 +5,15 @@ use native.Mathlib.Omega.{arith}
 use lib.ListN.{length}
 use Rattle.literals.specs.Decode.{literal_record}
 use Rattle.literals.specs.Held.{literal_arguments}
+use Rattle.std.specs.Prelude.{Err}
+use Rattle.std.proofs.Common.{rules}
 use Rattle.literals.proofs.Bytes.{plain_arguments}
+use Rattle.literals.proofs.Refusals.{fault_some}
 use Rattle.reading.proofs.Takes.{row_stop, held_over, not_zero, span_size, span_all, literal_early, literal_late, literal_full}
 use Rattle.reading.proofs.Takes.{literal_short, told_every, shape_stop, arguments_stop_lem}
 use Rattle.reading.proofs.Written.{literal_stopped, literal_placed}
 use Rattle.reading.proofs.take.take_literal.Goals as goal
-use Rattle.reading.proofs.take.take_literal.Goals.{then-beyond+else-arguments-ne0, else-beyond}
+use Rattle.reading.proofs.take.take_literal.Goals.{then-beyond+in_ok-literal_arguments, else-beyond}
 
 pub returns-then-n-eq0 : goal.returns-then-n-eq0
 returns-then-n-eq0 c =
@@ -35,41 +38,40 @@ returns-then-span-ge-MAX_LITERALS c =
     let z = span_size w S in
     row_stop K literal_record _ (literal_full K.filled.says _ (omega arith) (omega arith) (omega arith)) (not_zero 13)
 
-pub returns-then-shape-ne0 : goal.returns-then-shape-ne0
-returns-then-shape-ne0 c =
-    let back8 = c in
-    let actions-in = back8.actions_in-n in
+pub returns-in_err-literal_shape : goal.returns-in_err-literal_shape
+returns-in_err-literal_shape c =
+    let actions-in = c.actions_in-n in
     let a = actions-in.ensures.number in
-    let b = back8.components_in.ensures.number in
+    let b = c.components_in.ensures.number in
     let s = c.span_of-span.ensures in
+    let told : c.from_residual.result ≡ Err c.in_err-literal_shape.field-0.0 = search rules in
     λ D old K.
     let l = K.filled.says.actions in
     let w : actions-in.result - 1 + 1 ≡ length D.actions = omega arith in
     let S = (s.rows D _ (held_over K) (omega arith)).1 in
-    literal_stopped K _ _ w (omega arith) (omega arith) S (omega arith)
-    (shape_stop (held_over K) _ _ w c.literal_shape-shape.ensures (λ z. c.if-shape-ne0.true z)) (λ z. c.if-shape-ne0.true z)
+    rw told
+    (literal_stopped K _ _ w (omega arith) (omega arith) S (omega arith)
+    (shape_stop (held_over K) _ _ w c.in_err-literal_shape.ensures (fault_some _)) (fault_some _))
 
-pub literal_arguments-arguments-requires : goal.literal_arguments-arguments-requires
-literal_arguments-arguments-requires c =
-    let z : c.literal_shape-shape.result ≡ 0 = omega arith in
-    (literal_short _ _ _ (sym c.literal_shape-shape.ensures ∙ z)).0
+pub literal_arguments-requires : goal.literal_arguments-requires
+literal_arguments-requires c = (literal_short _ _ _ (sym c.in_ok-literal_shape.ensures)).0
 
-pub returns-then-arguments-ne0 : goal.returns-then-arguments-ne0
-returns-then-arguments-ne0 c =
-    let back8 = c in
-    let back16 = back8 in
-    let actions-in = back16.actions_in-n in
+pub returns-in_err-literal_arguments : goal.returns-in_err-literal_arguments
+returns-in_err-literal_arguments c =
+    let actions-in = c.actions_in-n in
     let a = actions-in.ensures.number in
-    let b = back8.components_in.ensures.number in
-    let s = back8.span_of-span.ensures in
+    let b = c.components_in.ensures.number in
+    let s = c.span_of-span.ensures in
+    let told : c.from_residual-in_err-literal_arguments.result ≡ Err c.in_err-literal_arguments.field-0.0 = search rules in
     λ D old K.
     let l = K.filled.says.actions in
     let w : actions-in.result - 1 + 1 ≡ length D.actions = omega arith in
     let S = (s.rows D _ (held_over K) (omega arith)).1 in
-    literal_stopped K _ _ w (omega arith) (omega arith) S (omega arith)
-    (arguments_stop_lem (held_over K) _ _ w c.literal_shape-shape.ensures (omega arith)
-    c.variables_of-variables.ensures.number c.literal_arguments-arguments.ensures (λ z. c.if-arguments-ne0.true z))
-    (λ z. c.if-arguments-ne0.true z)
+    rw told
+    (literal_stopped K _ _ w (omega arith) (omega arith) S (omega arith)
+    (arguments_stop_lem (held_over K) _ _ w c.in_ok-literal_shape.ensures refl
+    c.variables_of-variables.ensures.number c.in_err-literal_arguments.ensures (fault_some _))
+    (fault_some _))
 
 pub place_literal-requires : goal.place_literal-requires
 place_literal-requires c =
@@ -82,12 +84,11 @@ place_literal-requires c =
     let S = (s.rows R.sofar _ (held_over K) (omega arith)).1 in
     let n = span_size w S in
     let t = span_all w S in
-    let z : c.literal_shape-shape.result ≡ 0 = omega arith in
-    let f = literal_short _ _ _ (sym c.literal_shape-shape.ensures ∙ z) in
+    let f = literal_short _ _ _ (sym c.in_ok-literal_shape.ensures) in
     let m = R.room f.0 (omega arith) in
     let told : literal_arguments c.variables_of-variables.result c.args.p.now ≡ 0 =
     elim c.if-beyond.branch [
-      | then-beyond+else-arguments-ne0 w ↦ let y : w.literal_arguments-arguments.result ≡ 0 = omega arith in sym w.literal_arguments-arguments.ensures ∙ y
+      | then-beyond+in_ok-literal_arguments w ↦ sym w.in_ok-literal_arguments.ensures
       | else-beyond w ↦ let v = c.variables_of-variables.ensures.few in plain_arguments _ _ (omega arith) (sym c.any_beyond-beyond.ensures ∙ w.if-beyond.false)
     ] in
     let v = c.variables_of-variables.ensures.few in
@@ -96,22 +97,19 @@ place_literal-requires c =
 
 pub returns : goal.returns
 returns c =
-    let back8 = c in
-    let back16 = back8 in
-    let back24 = back16 in
     let variables-of = c.variables_of-variables in
-    let actions-in = back16.actions_in-n in
-    let told : literal_arguments variables-of.result back24.args.p.now ≡ 0 =
+    let actions-in = c.actions_in-n in
+    let told : literal_arguments variables-of.result c.args.p.now ≡ 0 =
     elim c.if-beyond.branch [
-      | then-beyond+else-arguments-ne0 w ↦ let y : w.literal_arguments-arguments.result ≡ 0 = omega arith in sym w.literal_arguments-arguments.ensures ∙ y
+      | then-beyond+in_ok-literal_arguments w ↦ sym w.in_ok-literal_arguments.ensures
       | else-beyond w ↦ let v = variables-of.ensures.few in plain_arguments _ _ (omega arith) (sym c.any_beyond-beyond.ensures ∙ w.if-beyond.false)
     ] in
     let a = actions-in.ensures.number in
-    let b = back16.components_in.ensures.number in
-    let s = back8.span_of-span.ensures in
+    let b = c.components_in.ensures.number in
+    let s = c.span_of-span.ensures in
     λ D old K.
     let l = K.filled.says.actions in
     let w : actions-in.result - 1 + 1 ≡ length D.actions = omega arith in
     let S = (s.rows D _ (held_over K) (omega arith)).1 in
-    literal_placed K _ _ w (omega arith) (omega arith) S (omega arith) back8.literal_shape-shape.ensures (omega arith)
+    literal_placed K _ _ w (omega arith) (omega arith) S (omega arith) c.in_ok-literal_shape.ensures refl
     variables-of.ensures.number (sym told) refl c.place_literal.ensures

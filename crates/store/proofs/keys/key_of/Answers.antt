@@ -1,23 +1,15 @@
 -- `key_of` meets its contract: by the place of the relation's component. Assumes nothing.
 use native.Mathlib.Omega.{arith}
-use mathlib.Core.Path.{sym, ◌∙◌}
-use Rattle.store.proofs.InstanceRows.{component_le, unmatched, matched}
+use mathlib.Core.Path.{◌∙◌}
+use Rattle.literals.proofs.Places.{components_few}
+use Rattle.store.proofs.InstanceRows.{unmatched, matched}
 use Rattle.store.proofs.keys.key_of.Goals as goal
 
-pub returns-then-c-components_in : goal.returns-then-c-components_in
-returns-then-c-components_in c =
-    let a = c.args in
-    unmatched a.head.now a.memory.now a.at c.component_of-c.result c.component_of-c.ensures (c.if-c-components_in.true ∙ c.components_in.ensures.number)
+pub returns-in_err-c : goal.returns-in_err-c
+returns-in_err-c c = let a = c.args in c.from_residual.ensures ∙ unmatched a.head.now a.memory.now a.at c.in_err-c.ensures
 
-pub key_tuple-requires : goal.key_tuple-requires
-key_tuple-requires c =
-    let a = c.args in
-    let h = component_le a.head.now a.memory.now a.at c.component_of-c.result c.component_of-c.ensures in
-    let n = c.components_in.ensures in
-    let g = c.if-c-components_in.false in
-    record { component = omega arith; row = omega arith }
+pub key_tuple-requires-clause-component : goal.key_tuple-requires-clause-component
+key_tuple-requires-clause-component c = let p = c.in_ok-c.ensures in let f = components_few c.args.head.now in omega arith
 
 pub returns : goal.returns
-returns c =
-    let a = c.args in
-    matched a.head.now a.memory.now a.at c.component_of-c.result c.component_of-c.ensures (λ e. c.if-c-components_in.false (e ∙ sym c.components_in.ensures.number)) c.key_tuple.result c.key_tuple.ensures
+returns c = let a = c.args in let p = c.in_ok-c.ensures in matched a.head.now a.memory.now a.at c.in_ok-c.c p.0 p.1 c.key_tuple.result c.key_tuple.ensures

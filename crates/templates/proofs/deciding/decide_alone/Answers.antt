@@ -1,7 +1,7 @@
-use mathlib.Core.Path.{refl}
 use Prim.Native.Nat.{◌<◌}
 use native.Mathlib.Omega.{arith}
 use lib.ListN.{length}
+use Rattle.verdict.proofs.ReadActions.{same_held}
 use Rattle.naming.proofs.NamedRows.{noted_action}
 use Rattle.templates.proofs.Alone.{decides, number_byte}
 use Rattle.templates.proofs.deciding.decide_alone.Goals as goal
@@ -12,7 +12,7 @@ loop-i-init c = record { reach = omega arith; noted = λ D H wf only. c.new-note
 pub summary_of-summary-requires : goal.summary_of-summary-requires
 summary_of-summary-requires c =
     let few = c.actions_in-i-end.ensures.number in
-    record { action = omega arith; places = c.put_places.ensures refl }
+    omega arith
 
 pub overflow_cast-i : goal.overflow_cast-i
 overflow_cast-i c = let n = c.actions_in-i-end.ensures.few in let t = c.loop-i-test.true in omega arith
@@ -27,7 +27,7 @@ loop-i-preserved c =
           λ D H wf only.
           let m = H.says.actions in
           let h : l.i < length D.actions = omega arith in
-          noted_action D l.i h (l.invariant.noted D H wf only) (c.summary_of-summary.ensures D H wf h only) c.with-notes.ensures;
+          noted_action D l.i h (l.invariant.noted D H wf only) (c.summary_of-summary.ensures D (same_held c.of-places.ensures H) wf h only) c.with-notes.ensures;
     }
 
 pub returns : goal.returns

@@ -2,11 +2,7 @@
 use mathlib.Core.Path.{sym, ◌∙◌}
 use Rattle.literals.specs.Domain.{action}
 use Rattle.verdict.proofs.ReadActions.{action_held}
-use borrow.Author.Rules.{rules}
 use Rattle.templates.proofs.deciding.summary_of.Goals as goal
-
-pub summarize-requires : goal.summarize-requires
-summarize-requires c = record { rowed = search rules; few = search rules; places = c.requires.places }
 
 pub returns : goal.returns
 returns c D H wf h only =

@@ -1,59 +1,43 @@
 -- `put_entry` meets its contract. Assumes nothing.
-use mathlib.Core.Path.{refl, ap}
-use Prim.Native.Nat.{◌+◌, ◌-◌}
+use mathlib.Core.Path.{◌≡◌, refl, sym, ap, ◌∙◌}
+use Rattle.std.proofs.Common.{rules}
+use mathlib.Core.List.{◌∷◌, []}
+use Prim.Native.Nat.{◌+◌}
 use native.Mathlib.Omega.{arith}
-use lib.ListN.{set, take, length-set}
-use Rattle.templates.specs.Templates.{single, component_at}
-use Rattle.templates.specs.Held.{shape_of}
+use lib.ListN.{take}
+use Rattle.std.proofs.lemmas.Slice.{put_mid-paste}
+use Rattle.reading.proofs.Takes.{stopped, passed}
+use Rattle.templates.specs.Templates.{single, component_at, shape, place_byte}
 use Rattle.templates.proofs.EntryBytes.{listing_passed, listing_more, refused_entry, taken_entry, taken_held, taken_formed, entry_is}
 use Rattle.templates.proofs.entries.put_entry.Goals as goal
 
-pub returns-then-fault-ne0 : goal.returns-then-fault-ne0
-returns-then-fault-ne0 c =
-    let back8 = c in
-    let arity-of = c.arity_of in record {
+pub returns-then-is_err : goal.returns-then-is_err
+returns-then-is_err c =
+    record {
       few = omega arith;
       entry = λ D ss old B h P L.
-          let a = back8.args in
-          listing_passed D ss (shape_of a.relation a.counted) L
-          (refused_entry B a.relation a.counted P arity-of.ensures.number
-          (ap (take (arity-of.result + 1 - 0))
-          back8.payload_of-payload.ensures)
-          c.take_component-fault.ensures.number c.if-fault-ne0.true);
+          let a = c.args in
+          listing_passed D ss (shape a.relation a.counted) L
+          (refused_entry B a.relation a.counted P (c.from-size.ensures ∙ c.arity_of.ensures.number) (ap (take (c.from-size.result + 1)) c.payload_of-payload.ensures)
+          c.take_component.ensures.number (stopped _ (sym c.is_err.ensures.value ∙ c.if-is_err.true)));
     }
-
-pub bounds-list-at-2 : goal.bounds-list-at-2
-bounds-list-at-2 c =
-    let back8 = c in
-    let args = back8.args in
-    let l = length-set args.list.now
-    args.at
-    args.relation in omega arith
-
-pub bounds-list-at-3 : goal.bounds-list-at-3
-bounds-list-at-3 c =
-    let back8 = c in
-    let a = back8.args in
-    let l = length-set a.list.now a.at a.relation in
-    let m = length-set (set a.list.now a.at a.relation) (a.at + 1) a.counted in
-    omega arith
 
 pub returns : goal.returns
 returns c =
-    let back8 = c in
-    let arity-of = back8.arity_of in record {
+    record {
       few = omega arith;
       entry = λ D ss old B h P L.
-          let a = back8.args in
+          let a = c.args in
           let r = a.relation in
-          let b = a.counted in
-          let e = arity-of.ensures.number in
-          let q = ap (take (arity-of.result + 1 - 0))
-          back8.payload_of-payload.ensures in
-          let T = c.take_component-fault.ensures.number in
-          let z = c.if-fault-ne0.false in
-          let v = c.decide_alone.ensures.number (single D (component_at D (shape_of r b))) (taken_held B r b P e q T z)
-          (taken_formed B r b P e q T z) refl in
-          listing_more D ss (shape_of r b) L (taken_entry B r b P e q T z) r b _ (entry_is D r b _ v)
-          back8.requires.room;
+          let o = a.counted in
+          let e = c.from-size.ensures ∙ c.arity_of.ensures.number in
+          let q = ap (take (c.from-size.result + 1)) c.payload_of-payload.ensures in
+          let T = c.take_component.ensures.number in
+          let z = passed _ (sym c.is_err.ensures.value ∙ c.if-is_err.false) in
+          let v = c.decide_alone-verdict.ensures.number (single D (component_at D (shape r o))) (taken_held B r o P e q T z) (taken_formed B r o P e q T z) refl in
+          let b : c.unwrap_or-place.result ≡ place_byte o = search rules in
+          listing_more D ss (shape r o) L (taken_entry B r o P e q T z) r c.unwrap_or-place.result c.decide_alone-verdict.result
+          (entry_is D r o c.unwrap_or-place.result c.decide_alone-verdict.result b v)
+          (put_mid-paste a.at _ a.list.now c.copy_from_slice.new.self (r ∷ c.unwrap_or-place.result ∷ c.decide_alone-verdict.result ∷ []) 3
+          c.copy_from_slice.ensures.after (omega arith) refl);
     }

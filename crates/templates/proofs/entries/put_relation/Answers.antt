@@ -1,10 +1,10 @@
 use mathlib.Core.Path.{refl, ◌∙◌}
-use mathlib.Core.Logic.{inl, inr}
 use mathlib.Core.List.{◌++◌, ◌∷◌, []}
 use Prim.Native.Nat.{◌<◌}
 use native.Mathlib.Omega.{arith}
 use Rattle.literals.specs.Domain.{arity}
-use Rattle.templates.specs.Held.{shape_of}
+use Rattle.std.specs.Prelude.{None}
+use Rattle.templates.specs.Templates.{shape}
 use Rattle.templates.proofs.EntryBytes.{places_none, places_next, places_all}
 use Rattle.templates.proofs.entries.put_relation.Goals as goal
 
@@ -44,8 +44,8 @@ loop-place-preserved c =
           let r = turn.args.relation in
           let a = n ∙ B.holds.filled.says.arities r in
           let p : l.place < arity D r = omega arith in
-          places_next ss r l.place (omega arith)
-          (c.put_entry-end-in-loop-place.ensures.entry D _ old B h (inr p) (l.invariant.listing D ss old B h L));
+          places_next ss r l.place
+          (c.put_entry-end-in-loop-place.ensures.entry D _ old B h p (l.invariant.listing D ss old B h L));
     }
 
 pub shape_of-list : goal.shape_of-list
@@ -65,5 +65,5 @@ returns c =
           let a = n ∙ B.holds.filled.says.arities r in
           let q = l.invariant.reach in
           places_all ss r l.place (omega arith)
-          (l.invariant.listing D (ss ++ (shape_of r 255 ∷ [])) old B h (first.ensures.entry D ss old B h (inl refl) L));
+          (l.invariant.listing D (ss ++ (shape r None ∷ [])) old B h (first.ensures.entry D ss old B h tt L));
     }

@@ -1,28 +1,35 @@
-use mathlib.Core.Path.{sym, ◌∙◌}
+-- `boxes::open_box` meets its contract: files are passed while one stands whole in front. Assumes nothing.
+use mathlib.Core.Path.{◌≡◌, ap, sym, ◌∙◌}
+use Prim.Native.Nat.{ℕ, ◌-◌}
 use native.Mathlib.Omega.{arith}
-use Rattle.totals.proofs.Loops.{pass_none, file_within, pass_file, pass_cut, pass_end}
+use lib.ListN.{length}
+use borrow.Author.Tests.{eqb-true, eqb-false}
+use Rattle.std.specs.Prelude.{Err}
+use Rattle.totals.specs.declared.Uncounted.TheVariants.{Cut}
+use Rattle.totals.specs.Held.{opening_of}
+use Rattle.totals.proofs.Loops.{left_all, left_length, left_cut, left_end, left_more, behind_length}
 use Rattle.totals.proofs.boxes.open_box.Goals as goal
 
-pub loop-at-init : goal.loop-at-init
-loop-at-init c = pass_none c.args.packed.now
+pub loop-behind-init : goal.loop-behind-init
+loop-behind-init c = left_all c.args.packed.now
 
-pub overflow_add-at : goal.overflow_add-at
-overflow_add-at c = let h = file_within c.loop-at.invariant (sym c.whole_at.ensures ∙ c.if-whole_at.true) in omega arith
+pub loop-behind-smaller : goal.loop-behind-smaller
+loop-behind-smaller c =
+    let s = c.in-Some.ensures in
+    let l = behind_length c.loop-behind.rest.now s.0 in
+    let e = ap length s.2 in omega arith
 
-pub length_at-requires : goal.length_at-requires
-length_at-requires c = let h = file_within c.loop-at.invariant (sym c.whole_at.ensures ∙ c.if-whole_at.true) in omega arith
+pub loop-behind-preserved : goal.loop-behind-preserved
+loop-behind-preserved c = let s = c.in-Some.ensures in left_more c.loop-behind.invariant s.0 s.2
 
-pub overflow_add-at-then-whole_at : goal.overflow_add-at-then-whole_at
-overflow_add-at-then-whole_at c = let h = file_within c.loop-at.invariant (sym c.whole_at.ensures ∙ c.if-whole_at.true) in let e = c.length_at.ensures.number in omega arith
+pub returns-then-is_empty : goal.returns-then-is_empty
+returns-then-is_empty c =
+    let none = eqb-true (length c.loop-behind.rest.now) 0 (sym c.is_empty.ensures ∙ c.if-is_empty.true) in
+    ap opening_of (sym (left_end c.loop-behind.invariant none))
 
-pub loop-at-smaller : goal.loop-at-smaller
-loop-at-smaller c = let h = file_within c.loop-at.invariant (sym c.whole_at.ensures ∙ c.if-whole_at.true) in let e = c.length_at.ensures.number in omega arith
-
-pub loop-at-preserved : goal.loop-at-preserved
-loop-at-preserved c = pass_file c.loop-at.invariant _ (sym c.whole_at.ensures ∙ c.if-whole_at.true) (let e = c.length_at.ensures.number in omega arith)
-
-pub returns-else-whole_at : goal.returns-else-whole_at
-returns-else-whole_at c = pass_cut c.loop-at.invariant (omega arith) (sym c.whole_at.ensures ∙ c.if-whole_at.false)
-
-pub returns : goal.returns
-returns c = pass_end c.loop-at.invariant (omega arith)
+pub returns-else-is_empty : goal.returns-else-is_empty
+returns-else-is_empty c =
+    let l = c.loop-behind.invariant in
+    let some = eqb-false (length c.loop-behind.rest.now) 0 (sym c.is_empty.ensures ∙ c.if-is_empty.false) in
+    let z : length c.args.packed.now - length c.loop-behind.rest.now ≡ l.at = (let e = left_length l in omega arith) in
+    ap (λ (n : ℕ). Err (Cut n)) z ∙ ap opening_of (sym (left_cut l (omega arith) c.in_default.ensures))

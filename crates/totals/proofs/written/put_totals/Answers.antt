@@ -1,44 +1,27 @@
-use mathlib.Core.Path.{refl, sym, ap, ◌∙◌}
+-- `written::put_totals` meets its contract: one total after the other. Assumes nothing.
+use mathlib.Core.Path.{refl, ap, ◌∙◌}
 use mathlib.Core.List.{List}
-use Prim.Native.Nat.{ℕ}
+use Prim.Native.Nat.{ℕ, ◌*◌}
 use native.Mathlib.Omega.{arith}
-use lib.ListN.{take}
+use lib.ListN.{get_or}
 use lib.Seq.{take_all}
+use Rattle.std.specs.Int.{w64, to_le_bytes}
+use Rattle.std.proofs.lemmas.Slice.{put_mid-paste}
 use Rattle.records.specs.Memory.{over}
 use Rattle.totals.specs.Totals.{total_bytes}
-use Rattle.totals.proofs.Walks.{none_written, bytes_more, bytes_of}
+use Rattle.totals.proofs.Walks.{none_written, one_written}
 use Rattle.totals.proofs.written.put_totals.Goals as goal
 
 pub loop-n-init : goal.loop-n-init
-loop-n-init c = (omega arith, refl, refl, none_written c.args.totals.now c.args.out.now)
-
-pub overflow_mul-n : goal.overflow_mul-n
-overflow_mul-n c = let p = c.requires in omega arith
-
-pub offset_bounds-totals-n : goal.offset_bounds-totals-n
-offset_bounds-totals-n c = let p = c.requires in omega arith
-
-pub put_total-requires : goal.put_total-requires
-put_total-requires c = let p = c.requires in let l = c.loop-n.invariant.2 in omega arith
+loop-n-init c = none_written c.args.totals.now c.args.out.now
 
 pub loop-n-preserved : goal.loop-n-preserved
 loop-n-preserved c =
-    let back8 = c in
-    let args = back8.args in
-    let loop = c.loop-n in
-    let put-total = c.put_total in
-    let ts = args.totals.now in
-    let out₀ = args.out.now in
-    let n = loop.n in (
-      omega arith,
-      loop.invariant.1,
-      put-total.auto.out ∙ loop.invariant.2,
-      put-total.ensures (total_bytes (take n ts)) out₀ (bytes_of ts n (omega arith)) (sym loop.invariant.2) loop.invariant.3
-          ∙ ap (λ (l : List ℕ). over l out₀) (sym (bytes_more ts n (omega arith))),
-    )
-
-pub shape_of-out : goal.shape_of-out
-shape_of-out c = c.loop-n.invariant.2
+    let n = c.loop-n.n in
+    let ts = c.args.totals.now in
+    put_mid-paste (8 * n) _ c.loop-n.out c.copy_from_slice.new.self (to_le_bytes w64 (get_or ts n 0)) 8
+    (c.copy_from_slice.ensures.after ∙ c.to_le_bytes.ensures) (omega arith) refl
+    ∙ one_written ts c.args.out.now c.loop-n.out n (omega arith) c.loop-n.invariant
 
 pub returns : goal.returns
-returns c = c.loop-n.invariant.3 ∙ ap (λ (l : List ℕ). over (total_bytes l) c.args.out.now) (take_all c.loop-n.n c.args.totals.now (omega arith))
+returns c = c.loop-n.invariant ∙ ap (λ (l : List ℕ). over (total_bytes l) c.args.out.now) (take_all c.loop-n.n c.args.totals.now (omega arith))

@@ -1,10 +1,9 @@
 -- `written::put_totals` meets its contract. The loop's invariant: the totals passed stand. Assumes nothing.
 use mathlib.Core.Path.{◌≡◌}
-use Prim.Native.Nat.{◌≤◌}
-use lib.ListN.{length, take}
+use lib.ListN.{take}
 use Rattle.records.specs.Memory.{over}
 use Rattle.totals.specs.Totals.{total_bytes}
 use Rattle.totals.proofs.written.put_totals.Given as goal
 
 abbrev pub invariant-loop-n : goal.invariant-loop-n
-invariant-loop-n l = (l.n ≤ l.n-end) × (l.n-end ≡ length l.totals) × (length l.out ≡ length l.initial.out) × (l.out ≡ over (total_bytes (take l.n l.totals)) l.initial.out)
+invariant-loop-n l = l.out ≡ over (total_bytes (take l.n l.totals)) l.initial.out

@@ -2,6 +2,7 @@ use mathlib.Core.Path.{◌≡◌, refl, subst, ◌∙◌}
 use Prim.Native.Nat.{ℕ, ◌<◌}
 use native.Mathlib.Omega.{arith}
 use lib.ListN.{length}
+use Rattle.verdict.proofs.ReadActions.{same_held}
 use Rattle.trying.specs.Held.{Making}
 use Rattle.trying.proofs.actions.try_actions.Goals as goal
 
@@ -26,8 +27,7 @@ try_action-end-requires c =
     let m = actions-in.ensures.few in
     let f = l.invariant.few in
     let s = l.invariant.same in
-    let placed = c.put_places.ensures refl in
-    record { action = omega arith; listed = (D, H, p.read.2, omega arith); places = placed; room = omega arith }
+    record { action = omega arith; listed = (D, same_held c.of-places.ensures H, p.read.2, omega arith); room = omega arith }
 
 pub overflow_step-i : goal.overflow_step-i
 overflow_step-i c = let m = c.actions_in-i-end.ensures.few in omega arith
@@ -45,7 +45,7 @@ loop-i-preserved c =
           λ D old H wf M.
           let a = n ∙ H.says.actions in
           let h : l.i < length D.actions = omega arith in
-          t.answers D old H wf h (l.invariant.making D old H wf M);
+          t.answers D old (same_held c.of-places.ensures H) wf h (l.invariant.making D old H wf M);
     }
 
 pub shape_of-made : goal.shape_of-made

@@ -4,15 +4,7 @@ use Prim.Native.Nat.{◌+◌}
 use native.Mathlib.Omega.{arith}
 use Rattle.verdict.proofs.ReadActions.{action_held}
 use Rattle.trying.proofs.Answering.{making_more}
-use borrow.Author.Rules.{rules}
 use Rattle.trying.proofs.actions.try_at_once.Goals as goal
-
-pub answer_rows-count-requires : goal.answer_rows-count-requires
-answer_rows-count-requires c =
-    let back8 = c in
-    let p = back8.requires in
-    let few = c.step_alone-alone.ensures.few in
-    record { places = p.places; few = few; base = search rules; after = search rules; rowed = search rules; literals = search rules; room = search rules }
 
 pub overflow_add-result : goal.overflow_add-result
 overflow_add-result c =

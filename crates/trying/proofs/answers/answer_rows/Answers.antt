@@ -19,7 +19,7 @@ returns c =
       few = omega arith;
       answers = λ D i A wf h L.
           let s = n.ensures.classes D (action D i) A in
-          let C : ClassesOf D i a.head.now a.alone a.base.now a.after.now a.rows.now n.new.numbers =
+          let C : ClassesOf D i a.places.now.head.now a.alone a.base.now a.after.now a.rows.now n.new.numbers =
           record { whole = A; numbers_are = s.1; formed = wf; listed = h; alone = L } in (
             answers_count C a.made.now n.result s.0 few,
             s.1,

@@ -1,50 +1,44 @@
 -- `try_class` meets its contract, case by case. Assumes nothing.
+use mathlib.Core.Path.{◌∙◌}
+use native.Mathlib.Omega.{arith}
+use borrow.Author.Tests.{ne_eqb}
 use Rattle.trying.proofs.Answering.{answer_heavy, answer_barred, answer_two, answer_one, answer_none, answer_free}
+use Rattle.trying.proofs.answers.try_class.Goals.{then-before-gt1-via-then-before-gt1, then-before-gt1-via-else-before-gt1+then-not-alone}
 use Rattle.trying.proofs.answers.try_class.Goals as goal
 
 pub returns-then-before-gt1 : goal.returns-then-before-gt1
 returns-then-before-gt1 c =
     let a = c.args in
-    answer_heavy a.head.now a.alone a.base.now a.after.now a.instance c.weigh-before.ensures c.if-before-gt1.true
+    elim c.then-before-gt1.branch [
+      | then-before-gt1-via-then-before-gt1 w ↦ answer_heavy a.head.now a.alone a.base.now a.after.now a.instance c.weigh-before.ensures w.if-before-gt1.true
+      | then-before-gt1-via-else-before-gt1+then-not-alone w ↦ answer_barred a.head.now a.alone a.base.now a.after.now a.instance w.if-not-alone.true
+    ]
 
-pub returns-then-not-alone : goal.returns-then-not-alone
-returns-then-not-alone c =
+pub returns-in-0 : goal.returns-in-0
+returns-in-0 c =
     let a = c.args in
-    answer_barred a.head.now a.alone a.base.now a.after.now a.instance c.if-not-alone.true
+    answer_none a.head.now a.alone a.base.now a.after.now a.instance c.weigh-before.ensures c.if-before-gt1.false c.if-not-alone.false c.weigh.ensures c.in-0.is
 
-pub returns-then-left-ge2 : goal.returns-then-left-ge2
-returns-then-left-ge2 c =
-    let back8 = c in
-    let a = back8.args in
-    answer_two a.head.now a.alone a.base.now a.after.now a.instance
-    c.weigh-before.ensures c.if-before-gt1.false
-    c.if-not-alone.false c.weigh-left.ensures
-    c.if-left-ge2.true
+pub returns-then-before-eq0 : goal.returns-then-before-eq0
+returns-then-before-eq0 c =
+    let a = c.args in
+    let one = c.in-1.is in
+    let none = c.if-before-eq0.true in
+    answer_free a.head.now a.alone a.base.now a.after.now a.instance c.weigh-before.ensures c.if-before-gt1.false c.if-not-alone.false c.weigh.ensures
+    (omega arith) (λ e. omega arith) (λ e. omega arith) c.any_free.ensures
 
-pub returns-then-before-eq1 : goal.returns-then-before-eq1
-returns-then-before-eq1 c =
-    let back8 = c in
-    let a = back8.args in
-    answer_one a.head.now a.alone a.base.now a.after.now a.instance
-    c.weigh-before.ensures c.if-before-gt1.false
-    c.if-not-alone.false c.weigh-left.ensures
-    c.if-left-ge2.false c.if-before-eq1.true
+pub returns-else-before-eq0 : goal.returns-else-before-eq0
+returns-else-before-eq0 c =
+    let a = c.args in
+    let one = c.in-1.is in
+    let few = c.if-before-gt1.false in
+    let some = c.if-before-eq0.false in
+    ne_eqb c.weigh-before.result 0 some
+    ∙ answer_one a.head.now a.alone a.base.now a.after.now a.instance c.weigh-before.ensures few c.if-not-alone.false c.weigh.ensures
+    (omega arith) (omega arith)
 
-pub returns-then-left-eq0 : goal.returns-then-left-eq0
-returns-then-left-eq0 c =
-    let back8 = c in
-    let a = back8.args in
-    answer_none a.head.now a.alone a.base.now a.after.now a.instance
-    c.weigh-before.ensures
-    c.if-before-gt1.false c.if-not-alone.false
-    c.weigh-left.ensures
-    c.if-left-eq0.true
-
-pub returns : goal.returns
-returns c =
-    let back8 = c in
-    let a = back8.args in
-    answer_free a.head.now a.alone a.base.now a.after.now a.instance back8.weigh-before.ensures
-    back8.if-before-gt1.false back8.if-not-alone.false c.weigh-left.ensures
-    c.if-left-ge2.false c.if-before-eq1.false
-    c.if-left-eq0.false c.any_free.ensures
+pub returns-in_default : goal.returns-in_default
+returns-in_default c =
+    let a = c.args in
+    answer_two a.head.now a.alone a.base.now a.after.now a.instance c.weigh-before.ensures c.if-before-gt1.false c.if-not-alone.false c.weigh.ensures
+    (omega arith)
