@@ -14,7 +14,7 @@ name_line n =
     else (if n == 6 then codes " bounded\n"
     else codes " unbounded\n")))))
 
--- a row of a report: its action, its moment, its class, and the name
+-- a row of a report: its action, its class, its moment, and the name
 abbrev pub row_line : List ℕ → List ℕ
 row_line row = ((((codes "row " ++ decimal (byte row 0)) ++ (codes " " ++ decimal (byte row 1))) ++ (codes " " ++ decimal (byte row 2))) ++ name_line (byte row 3))
 

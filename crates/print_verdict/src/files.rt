@@ -1,7 +1,7 @@
 // Reads a file by name, or says on standard error why a program does nothing with it; and the names, which the program's arguments are.
 ghost use Rattle.std.specs.Counts.{IsPrefixLen};
 ghost use Rattle.std.specs.Io.KnownBytes.{Appends};
-ghost use Rattle.std.specs.Prelude.{[], ◌++◌, ◌≡◌, IfOk, IfSome, OnOk, length, ◌∷◌};
+ghost use Rattle.std.specs.Prelude.{[], ◌++◌, ◌≡◌, IfOk, IfSome, IsUtf8, OnOk, length, ◌∷◌};
 
 use literals::limits::MAX_FILE;
 use std::env::{Env, FillError};
@@ -16,7 +16,7 @@ pub const DOMAIN_ROOM: usize = MAX_FILE + 1;
 // Room for a file's name.
 pub const NAME_ROOM: usize = 4096;
 
-// How many arguments the program was started with, its own name among them.
+// How many arguments the program was started with, its own name among them. (No contract says what an environment holds.)
 pub fn argument_count(env: &impl Env) -> usize {
     (0..usize::MAX)
         .find(|&i| matches!(env.arg(i, &mut [0u8; 1]), Err(FillError::NotPresent)))
@@ -55,7 +55,9 @@ fn print_open_error<W: Write>(errors: &mut W, program: &[u8], name: &[u8]) -> io
 }
 
 // Opens a file for reading. A name is text: one that is not UTF-8 names no file.
-pub fn open_named<R: Files>(rt: &R, name: &[u8]) -> io::Result<R::File> {
+pub fn open_named<R: Files>(rt: &R, name: &[u8]) -> io::Result<R::File>
+    ensures { OnOk result (IsUtf8 name.now) }
+{
     match str::from_utf8(name) {
         Ok(path) => File::open(rt, path),
         Err(_) => Err(io::Error::new(io::ErrorKind::InvalidInput, "a file name is not UTF-8")),

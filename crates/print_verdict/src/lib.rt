@@ -44,7 +44,7 @@ fn put_verdict<W: Write>(out: &mut W, v: Judgement) -> io::Result<()>
     out.write_all(b"\n")
 }
 
-// A row of a report: its action, its moment, its class, and the name.
+// A row of a report: its action, its class, its moment, and the name.
 fn put_row<W: Write>(out: &mut W, row: &[u8]) -> io::Result<()>
     requires { 4 ≤ length row.now }
     ensures { OnOk result (Appends (W.contents out.old) (W.contents out.new) (row_line row.now)) }
