@@ -2,6 +2,7 @@
 #![tactic(auto)]
 
 ghost use Rattle.std.specs.Prelude.{◌≡◌, List, [], ◌∷◌, ◌++◌, map, ◌+◌, ◌*◌, ◌<◌, ◌≤◌, length, get_or, take, drop, IfSome};
+ghost use Rattle.std.proofs.Math.Seq.{paste};
 ghost use Rattle.records.specs.Memory.{over};
 ghost use Rattle.records.specs.Lists.{any};
 ghost use Rattle.literals.specs.declared.Object.{Object};
@@ -32,6 +33,17 @@ pub const SCRATCH: usize = EFFECTS + 8 * MAX_GROUND;
 
 // A mark for each byte: whether a row has it as its first argument.
 type FirstMarks = [u8; 256];
+
+// Bytes, written at an offset. (One by one, which is compiled to many at once: where they may lie in one memory, for all that the compiler
+// knows, `copy_from_slice` is compiled to a call of C's `memmove`, a name that the library needs nowhere else.)
+fn copy_bytes(out: &mut [u8], at: usize, p: &[u8])
+    requires { at + length p.now ≤ length out.old }
+    ensures { out.new ≡ paste out.old at p.now (length p.now) }
+{
+    for i in 0..p.len() {
+        out[at + i] = p[i];
+    }
+}
 
 // Writes a row behind the first n.
 fn append_row(out: &mut [u8], n: usize, row: [u8; 8])
@@ -169,12 +181,12 @@ fn keep_rows(
         m,
         patterns,
     ) {
-        put_bytes(scratch, 8 * k, &work[8 * i..8 * next]);
+        copy_bytes(scratch, 8 * k, &work[8 * i..8 * next]);
         k += next - i;
         leave(index, head, work, 8 * next);
         i = next + 1;
     }
-    put_bytes(scratch, 8 * k, &work[8 * i..8 * n]);
+    copy_bytes(scratch, 8 * k, &work[8 * i..8 * n]);
     k + (n - i)
 }
 

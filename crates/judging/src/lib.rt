@@ -63,7 +63,7 @@ fn has_witness(head: &Head, table: &[u8], numbers: &[u8], made: Judgement) -> bo
             numbers,
             made.first as usize,
             made.second as usize,
-            made.moment(),
+            made.third,
         )
 }
 
@@ -95,7 +95,7 @@ fn judge_with(
             numbers,
             decided.first as usize,
             decided.second as usize,
-            decided.moment(),
+            decided.third,
             decided.number,
             witness,
         )

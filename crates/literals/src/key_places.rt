@@ -14,13 +14,13 @@ use super::row::lowered;
 
 // A byte for each relation: its component's number and 1, or 0. Then 8 bytes for each component: the place of the argument under each of
 // its keys.
-const KEY_PLACES: usize = MAX_RELATIONS + 8 * MAX_COMPONENTS;
+pub const KEY_PLACES: usize = MAX_RELATIONS + 8 * MAX_COMPONENTS;
 
-type KeyPlaces = [u8; KEY_PLACES];
+pub type KeyPlaces = [u8; KEY_PLACES];
 
 // A domain, with the number of its keys, the component of each relation and the places of the keys. (Whoever numbers literals asks for
 // them by reference: they are 192 bytes and more.)
-#[derive(Drop)]
+#[derive(Clone, Copy)]
 pub struct Places<'a> {
     pub head: &'a Head,
     keys: usize,

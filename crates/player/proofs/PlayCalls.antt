@@ -17,35 +17,28 @@ use Rattle.run_semantics.specs.RunFile.{entries_before, entries_up_to, begun_in}
 use Rattle.run_semantics.specs.Play.{work_bytes, Outcome, place_of, held_bytes, play_run, Returned, of_domain, of_run, Call, outcome_call, call_by}
 use Rattle.run_semantics.specs.Play.{call, played, work_after, returned, returned_bytes}
 use Rattle.run_semantics.specs.Claims.{final_of, AsMachine, PlaysAsMachine, StaysLow}
-use Rattle.run_semantics.specs.declared.Stop.{Stop}
-use Rattle.run_semantics.specs.Numbers.{stop_number}
-use Rattle.run_semantics.proofs.Numbers.{fifty}
-use Rattle.player.specs.declared.Ending.TheVariants.{Played, Stopped}
-use Rattle.player.specs.Held.{ending_number, WholeEnd, end_in, ended_of}
+use Rattle.player.specs.Held.{ended_of}
 use Rattle.player.specs.Called.{file_of, offset_of}
 use Rattle.player.specs.Held.{as_fault, fault_file, fault_offset, part_at, answer_of, answer_by}
 use Rattle.run_semantics.proofs.Never.{played_as_machine, weight_stays_low}
 
 -- ---- the answer of a run
 
-module _ (e : Ended) (o : Outcome) (is : end_in e ≡ ended_of o) where
-  pub answer_played : (number : ℕ) → number ≡ ending_number e.ending → e.ending ≡ Played → record { number = number; place = 0; steps = e.tally.steps; weight = e.tally.weight; fault = InRun e.place } ≡ answer_by o
-  answer_played number told z =
-      let n : o.number ≡ 2 = sym (ap (λ (x : WholeEnd). x.number) is) ∙ ap ending_number z in
+module _ (e : Ended) (o : Outcome) (is : e ≡ ended_of o) where
+  pub answer_played : e.number ≡ 2 → record { number = e.number; place = 0; steps = e.tally.steps; weight = e.tally.weight; fault = InRun e.place } ≡ answer_by o
+  answer_played z =
+      let n : o.number ≡ 2 = sym (ap (λ (x : Ended). x.number) is) ∙ z in
       let f : eqb o.number 2 ≡ true = eq-eqb o.number 2 n in
-      λ i. record { number = (told ∙ ap (λ (x : WholeEnd). x.number) is) i; place = place_none f i; steps = (is i).tally.steps; weight = (is i).tally.weight; fault = InRun (is i).place }
+      λ i. record { number = (is i).number; place = place_none f i; steps = (is i).tally.steps; weight = (is i).tally.weight; fault = InRun (is i).place }
     where
       place_none : eqb o.number 2 ≡ true → 0 ≡ cond (eqb o.number 2) 0 o.place
       place_none f = rw f
 
-  pub answer_stopped : (number : ℕ) → number ≡ ending_number e.ending → (stop : Stop) → e.ending ≡ Stopped stop → record { number = number; place = e.place; steps = e.tally.steps; weight = e.tally.weight; fault = InRun e.place } ≡ answer_by o
-  answer_stopped number told stop z =
-      let f : eqb o.number 2 ≡ false = ne_eqb o.number 2 (λ k. not_two stop (sym (ap ending_number z) ∙ ap (λ (x : WholeEnd). x.number) is ∙ k)) in
-      λ i. record { number = (told ∙ ap (λ (x : WholeEnd). x.number) is) i; place = (ap (λ (x : WholeEnd). x.place) is ∙ place_is f) i; steps = (is i).tally.steps; weight = (is i).tally.weight; fault = InRun (is i).place }
+  pub answer_stopped : (e.number ≡ 2 → ⊥) → record { number = e.number; place = e.place; steps = e.tally.steps; weight = e.tally.weight; fault = InRun e.place } ≡ answer_by o
+  answer_stopped z =
+      let f : eqb o.number 2 ≡ false = ne_eqb o.number 2 (λ k. z (ap (λ (x : Ended). x.number) is ∙ k)) in
+      λ i. record { number = (is i).number; place = (ap (λ (x : Ended). x.place) is ∙ place_is f) i; steps = (is i).tally.steps; weight = (is i).tally.weight; fault = InRun (is i).place }
     where
-      not_two : (s : Stop) → stop_number s ≡ 2 → ⊥
-      not_two s k = let l = fifty s in omega arith
-
       place_is : eqb o.number 2 ≡ false → o.place ≡ cond (eqb o.number 2) 0 o.place
       place_is f = rw f
 

@@ -15,7 +15,8 @@ use Rattle.run_semantics.specs.Play.{work_bytes, Playing, before_run, Outcome, P
 use Rattle.run_semantics.specs.Play.{play_from, play_run}
 use Rattle.events.specs.Held.{open_of}
 use Rattle.machine.specs.Held.{Noted}
-use Rattle.player.specs.Held.{Whole as Player, WholeTurn as Turn, player_of, Stands, PlayLeadsTo, NotedAfter, Playable, WholeEnd, ended_of}
+use Rattle.player.specs.declared.run.Ended.{Ended}
+use Rattle.player.specs.Held.{Whole as Player, WholeTurn as Turn, player_of, Stands, PlayLeadsTo, NotedAfter, Playable, ended_of}
 use Rattle.run_semantics.proofs.Loop.{play_more, play_done, play_at}
 use Rattle.player.proofs.Sound.{sound_on, sound_new}
 use Rattle.player.proofs.PlayTurns.{at_is}
@@ -115,7 +116,7 @@ module _ (D : Domain) (B : Bounded D) {head : List ℕ} (r old : List ℕ) (play
   pub loop_falls : t.number ≡ 0 → length r - t.player.at < length r - player.at
   loop_falls z = let f = (turned z).further in let n = (turned z).inside in omega arith
 
-  pub loop_ends : (t.number ≡ 0 → ⊥) → (ended : WholeEnd)
+  pub loop_ends : (t.number ≡ 0 → ⊥) → (ended : Ended)
       → ended ≡ record {
         number = t.number;
         place = t.player.at;

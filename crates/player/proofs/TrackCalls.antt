@@ -23,7 +23,7 @@ use Rattle.player.specs.declared.play.Fault.TheVariants.{Domain as InDomain, Run
 use Rattle.player.specs.declared.play.PlayAnswer.{PlayAnswer}
 use Rattle.player.specs.declared.play.Tracked.{Tracked}
 use Rattle.player.specs.declared.run.Ended.{Ended}
-use Rattle.player.specs.Held.{WholeEnd, end_in, ended_of}
+use Rattle.player.specs.Held.{ended_of}
 use Rattle.run_semantics.specs.RunFile.{max_facts, outside, objects_stop}
 use Rattle.run_semantics.specs.Play.{work_bytes, before_run, outcome_at, held_bytes, play_run, outcome_call, call_by, call, work_after}
 use Rattle.run_semantics.specs.Play.{returned_bytes}
@@ -169,12 +169,12 @@ module _ (D : Domain) (y r : List ℕ) where
       same true = refl
       same false = refl
 
-  module _ (z : instance_stop D y r ≡ 0) (ended : Ended) (is : end_in ended ≡ ended_of (play_run D r)) where
+  module _ (z : instance_stop D y r ≡ 0) (ended : Ended) (is : ended ≡ ended_of (play_run D r)) where
     pub early_answer : ended.begun ≡ false → (a : PlayAnswer) → a ≡ answer_by (play_run D r)
         → (work old : List ℕ) → work ≡ over (held_bytes (play_run D r).facts) old → Told (record { played = a; total = 0 }) work old
     unfolding reported_total
     early_answer b a ae work old w =
-        let f : (play_run D r).begun ≡ false = sym (ap (λ (x : WholeEnd). x.begun) is) ∙ b in
+        let f : (play_run D r).begun ≡ false = sym (ap (λ (x : Ended). x.begun) is) ∙ b in
         rw (track_on z, f) ((λ i. record { played = ae i; total = 0 }), w)
 
     pub total_answer : ended.begun ≡ true → (a : PlayAnswer) → a ≡ answer_by (play_run D r)
@@ -182,7 +182,7 @@ module _ (D : Domain) (y r : List ℕ) where
         → (work old : List ℕ) → work ≡ over (held_bytes (play_run D r).facts) old → Told (record { played = a; total = t }) work old
     unfolding reported_total
     total_answer b a ae t te work old w =
-        let f : (play_run D r).begun ≡ true = sym (ap (λ (x : WholeEnd). x.begun) is) ∙ b in
+        let f : (play_run D r).begun ≡ true = sym (ap (λ (x : Ended). x.begun) is) ∙ b in
         rw (track_on z, f) ((λ i. record { played = ae i; total = te i }), w)
 
 -- ---- the call

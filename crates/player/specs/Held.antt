@@ -14,7 +14,6 @@ use Rattle.events.specs.Held.{agenda_bytes, open_of, waiting_of}
 use Rattle.effects.specs.Held.{scratch_bytes}
 use Rattle.machine.specs.Held.{StateRows, state_of, state_in, Kept, Noted}
 use Rattle.run_fields.specs.Held.{objects_or_0}
-use Rattle.player.specs.declared.Tally.{Tally as Counted}
 use Rattle.player.specs.declared.Player.{Player}
 use Rattle.player.specs.declared.Ending.{Ending}
 use Rattle.player.specs.declared.Ending.TheVariants.{Played, Stopped}
@@ -136,27 +135,7 @@ pub record Playable (head : List ℕ) (player : Whole) (work index : List ℕ) :
 
 -- ---- how a run ends
 
--- with the number of how it ended
-pub record WholeEnd : Type 0 where
-  pub number : ℕ
-  pub place : ℕ
-  pub begun : Bool
-  pub tally : Counted
-  pub facts : ℕ
-  pub opened : ℕ
-
-abbrev pub end_in : Ended → WholeEnd
-end_in ended =
-    record {
-      number = ending_number ended.ending;
-      place = ended.place;
-      begun = ended.begun;
-      tally = ended.tally;
-      facts = ended.facts;
-      opened = ended.opened;
-    }
-
-abbrev pub ended_of : Outcome → WholeEnd
+abbrev pub ended_of : Outcome → Ended
 ended_of o =
     record {
       number = o.number;

@@ -54,9 +54,10 @@ impl Ending {
     }
 }
 
-// Playing is over: how it ended, and where the player stands.
+// Playing is over: how it ended, and where the player stands. (The player in front: so it stands at one place in a `Result<Player, Over>`,
+// whichever that is, and is not copied from one to the other with every record.)
 #[derive(Clone, Copy, Debug, PartialEq, Eq)]
 pub struct Over {
-    pub ending: Ending,
     pub player: Player,
+    pub ending: Ending,
 }

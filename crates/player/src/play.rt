@@ -4,11 +4,10 @@ ghost use Rattle.literals.specs.Decode.{max_literals, max_actions};
 ghost use Rattle.reading.specs.Held.{EnoughTable};
 ghost use Rattle.run_semantics.specs.Play.{Outcome, call, played, work_after, returned, returned_bytes};
 ghost use Rattle.run_semantics.specs.Claims.{PlaysAsMachine, StaysLow};
-ghost use Rattle.player.specs.Held.{end_in, ended_of};
+ghost use Rattle.player.specs.Held.{ended_of};
 ghost use Rattle.player.specs.Called.{file_of, offset_of};
 ghost use Rattle.player.specs.Held.{fault_file, fault_offset, part_at, answer_of, answer_by, answer_unplayed, tracked_if, tracked_of};
 
-use super::Ending;
 use super::run::{Ended, WORK, play_run};
 use super::track::track_run;
 use events::AGENDA;
@@ -85,23 +84,23 @@ pub fn part<'a>(domain: &'a [u8], run: &'a [u8], fault: Fault) -> &'a [u8]
 
 // What the end of a run tells: with 2 no record is at fault, and the empty end of the run file comes back.
 pub fn answer_by(ended: Ended) -> PlayAnswer
-    ensures { (o : Outcome) → end_in ended ≡ ended_of o → result ≡ answer_by o }
+    ensures { (o : Outcome) → ended ≡ ended_of o → result ≡ answer_by o }
 {
     let tally = ended.tally;
     let stopped = PlayAnswer {
-        number: ended.ending.number(),
+        number: ended.number,
         place: ended.place,
         steps: tally.steps,
         weight: tally.weight,
         fault: Fault::Run(ended.place),
     };
-    match ended.ending {
-        Ending::Played => PlayAnswer {
+    if ended.number == 2 {
+        return PlayAnswer {
             place: 0,
             ..stopped
-        },
-        Ending::Stopped(_) => stopped,
+        };
     }
+    stopped
 }
 
 // An answer without a run: no step is made, and the highest weight is 0.

@@ -6,10 +6,10 @@ ghost use Rattle.literals.specs.Held.{Held, Read};
 ghost use Rattle.store.specs.Held.{fact_index};
 ghost use Rattle.effects.specs.Held.{scratch_bytes};
 ghost use Rattle.run_semantics.specs.Play.{work_bytes, held_bytes, play_run};
-ghost use Rattle.player.specs.Held.{end_in, ended_of};
+ghost use Rattle.player.specs.Held.{ending_number, ended_of};
 ghost use Rattle.events.specs.Held.{agenda_bytes, agenda_open, open_of};
 
-use super::{Ending, Over, Player, Tally};
+use super::{Over, Player, Tally};
 use effects::SCRATCH;
 use literals::head::Head;
 use literals::limits::MAX_FACTS;
@@ -19,11 +19,11 @@ use store::index::{FACT_INDEX, FactIndex};
 // The bytes of the facts in the work memory.
 pub const WORK: usize = 8 * MAX_FACTS;
 
-// How a run ended, the offset of the record at fault, whether the start was over, what was counted, and how many facts are held and how
-// many entries are open.
+// How a run ended: the number (2 when it was played), the offset of the record at fault, whether the start was over, what was counted,
+// and how many facts are held and how many entries are open. (A number, since `answer_by` answers for any.)
 #[derive(Clone, Copy, Debug, PartialEq, Eq)]
 pub struct Ended {
-    pub ending: Ending,
+    pub number: u64,
     pub place: usize,
     pub begun: bool,
     pub tally: Tally,
@@ -34,7 +34,7 @@ pub struct Ended {
 // How a run ended where playing is over.
 fn ended_by(over: Over) -> Ended
     ensures { result ≡ record {
-      ending = over.ending;
+      number = ending_number over.ending;
       place = over.player.at;
       begun = over.player.begun;
       tally = over.player.tally;
@@ -47,7 +47,7 @@ fn ended_by(over: Over) -> Ended
     let tally = last.tally;
     let state = last.state;
     Ended {
-        ending: over.ending,
+        number: over.ending.number(),
         place: at,
         begun: last.begun,
         tally,
@@ -75,7 +75,7 @@ fn play_records(
     requires scratch { length scratch.old ≡ scratch_bytes }
     ensures { (D : Domain) (old : List ℕ) → Held D head.now table.now
         → work.old ≡ over (held_bytes []) old
-        → (end_in result ≡ ended_of (play_run D run.now))
+        → (result ≡ ended_of (play_run D run.now))
         × (work.new ≡ over (held_bytes (play_run D run.now).facts) old)
         × (agenda_open result.opened agenda.new ≡ open_of (play_run D run.now).running) }
 {
@@ -94,7 +94,7 @@ pub fn play_run(head: &Head, table: &[u8], run: &[u8], work: &mut [u8], agenda: 
     requires room { work_bytes ≤ length work.old }
     requires agenda { agenda.old ≡ replicate agenda_bytes 0 }
     ensures { (D : Domain) → Held D head.now table.now
-        → (end_in result ≡ ended_of (play_run D run.now))
+        → (result ≡ ended_of (play_run D run.now))
         × (work.new ≡ over (held_bytes (play_run D run.now).facts) work.old)
         × (agenda_open result.opened agenda.new ≡ open_of (play_run D run.now).running) }
 {

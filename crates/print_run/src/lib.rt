@@ -59,11 +59,11 @@ pub fn play_named<R: Files, W: Write, E: Write>(
     run_name: &[u8],
 ) -> io::Result<()> {
     let mut domain = [0u8; DOMAIN_ROOM];
-    let Some(n) = read_named(rt, errors, b"play", domain_name, &mut domain)? else {
+    let Ok(n) = read_named(rt, errors, b"play", domain_name, &mut domain)? else {
         return Ok(());
     };
     let mut run = run_buffer();
-    let Some(m) = read_named(rt, errors, b"play", run_name, &mut run)? else {
+    let Ok(m) = read_named(rt, errors, b"play", run_name, &mut run)? else {
         return Ok(());
     };
     if m > MAX_RUN {

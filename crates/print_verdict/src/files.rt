@@ -1,7 +1,7 @@
 // Reads a file by name, or says on standard error why a program does nothing with it; and the names, which the program's arguments are.
 ghost use Rattle.std.specs.Counts.{IsPrefixLen};
 ghost use Rattle.std.specs.Io.KnownBytes.{Appends};
-ghost use Rattle.std.specs.Prelude.{[], ◌++◌, ◌≡◌, IfOk, IfSome, IsUtf8, OnOk, length, ◌∷◌};
+ghost use Rattle.std.specs.Prelude.{[], ◌++◌, ◌≡◌, IfOk, IsUtf8, MatchResult, OnOk, length, ◌∷◌};
 
 use literals::limits::MAX_FILE;
 use std::env::{Env, FillError};
@@ -15,6 +15,10 @@ pub const DOMAIN_ROOM: usize = MAX_FILE + 1;
 
 // Room for a file's name.
 pub const NAME_ROOM: usize = 4096;
+
+// That a file cannot be opened, or cannot be read to its end; and how many bytes of it were put into memory before that.
+#[derive(Clone, Copy, Debug, PartialEq, Eq)]
+pub struct Unread(pub usize);
 
 // How many arguments the program was started with, its own name among them. (No contract says what an environment holds.)
 pub fn argument_count(env: &impl Env) -> usize {
@@ -85,26 +89,27 @@ fn is_readable<R: Read>(input: &mut R) -> bool {
     input.read(&mut [0u8; 1]).is_ok()
 }
 
-// Reads a file from its start for the program of a name, and tells how many bytes of it: all, or as many as there was room for. None where
-// it cannot be opened or read, which one line says; an error is one of writing that line.
+// Reads a file from its start for the program of a name, and tells how many bytes of it: all, or as many as there was room for; or that it
+// cannot be opened or read, which one line says. (The outer error is one of writing that line.)
 pub fn read_named<R: Files, W: Write>(
     rt: &R,
     errors: &mut W,
     program: &[u8],
     name: &[u8],
     file: &mut [u8],
-) -> io::Result<Option<usize>>
-    ensures counted { IfOk result (λ read. IfSome read (λ count. IsPrefixLen count file.new)) }
+) -> io::Result<Result<usize, Unread>>
+    ensures counted { IfOk result (λ read.
+        MatchResult read (λ count. IsPrefixLen count file.new) (λ unread. IsPrefixLen unread.0 file.new)) }
     ensures room { length file.new ≡ length file.old }
 {
     let Ok(mut input) = open_named(rt, name) else {
         print_open_error(errors, program, name)?;
-        return Ok(None);
+        return Ok(Err(Unread(0)));
     };
     let count = read_full(&mut input, file);
     if !is_readable(&mut input) {
         print_error(errors, program, b": cannot read ", name)?;
-        return Ok(None);
+        return Ok(Err(Unread(count)));
     }
-    Ok(Some(count))
+    Ok(Ok(count))
 }

@@ -24,12 +24,19 @@ pub fn put<W: Write, T: Display + Copy>(out: &mut W, word: &[u8], value: T) -> i
     write!(out, "{value}")
 }
 
-// The name of a byte in a report, the end of a line.
+// The name of a byte in a report, the end of a line. (In one write: what prints has no buffer, and `writeln!` writes each piece by itself.)
 pub fn name<W: Write>(out: &mut W, n: u8) -> io::Result<()>
     ensures { OnOk result (Appends (W.contents out.old) (W.contents out.new) (name_line n)) }
 {
-    let name = Name::from(n);
-    writeln!(out, " {name}")
+    match Name::from(n) {
+        Name::Unreachable => out.write_all(b" unreachable\n"),
+        Name::Irrelevant => out.write_all(b" irrelevant\n"),
+        Name::Heavy => out.write_all(b" heavy\n"),
+        Name::Balanced => out.write_all(b" balanced\n"),
+        Name::Unbalanced => out.write_all(b" unbalanced\n"),
+        Name::Bounded => out.write_all(b" bounded\n"),
+        Name::Unbounded => out.write_all(b" unbounded\n"),
+    }
 }
 
 // The verdict line.

@@ -56,6 +56,16 @@ pub struct Notes {
     pub endless: bool,
 }
 
+// The moment that a third place tells: 0 a start, and any other number an end.
+pub fn moment_of(third: u64) -> Moment
+    ensures { result ≡ moment_by third }
+{
+    match third {
+        0 => Moment::Start,
+        _ => Moment::End,
+    }
+}
+
 impl Judgement {
     // The number, and a first place alone.
     pub fn at(number: u64, first: u64) -> Judgement
@@ -73,10 +83,7 @@ impl Judgement {
     pub fn moment(self) -> Moment
         ensures { result ≡ moment_by self.third }
     {
-        match self.third {
-            0 => Moment::Start,
-            _ => Moment::End,
-        }
+        moment_of(self.third)
     }
 }
 
@@ -129,6 +136,7 @@ impl Summary {
     }
 
     // Whether it has nothing for the decision, as of most actions.
+    #[inline(always)]
     fn is_silent(self) -> bool
         ensures { result ≡ is_silent self }
     {
@@ -155,6 +163,7 @@ impl Place {
 }
 
 // This place, or where it is none the spot in the action i.
+#[inline(always)]
 fn or_in(place: Option<Place>, i: u8, spot: Option<Spot>) -> Option<Place>
     ensures { result ≡ place_else place (place_in i spot) }
 {
@@ -181,6 +190,7 @@ impl Notes {
     }
 
     // The notes joined with the summary of one action more, the action i.
+    #[inline(always)]
     fn join(self, i: u8, summary: Summary) -> Notes
         ensures { (ss : List Summary) → i ≡ length ss → self ≡ notes_of ss → result ≡ notes_of (ss ++ (summary ∷ [])) }
     {
@@ -193,7 +203,9 @@ impl Notes {
         }
     }
 
-    // The notes with the summary of one action more, the action i. Most summaries have nothing for the decision, which is asked first.
+    // The notes with the summary of one action more, the action i. Most summaries have nothing for the decision, which is asked first. (In
+    // the loop that calls it, as all that it calls: notes and summary are some bytes each, and to hand them over costs more than to join them.)
+    #[inline(always)]
     pub fn with(self, i: u8, summary: Summary) -> Notes
         ensures { (ss : List Summary) → i ≡ length ss → self ≡ notes_of ss → result ≡ notes_of (ss ++ (summary ∷ [])) }
     {

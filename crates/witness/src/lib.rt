@@ -11,6 +11,7 @@ ghost use Rattle.literals.specs.Held.{rows_in, Held};
 ghost use Rattle.classes.specs.Classes.{classes};
 ghost use Rattle.classes.specs.Held.{ActionOf, class_numbers, numbers_of, place_below, uncovered_at};
 ghost use Rattle.verdict.specs.Claims.{well_formed};
+ghost use Rattle.verdict.specs.Held.{moment_by};
 ghost use Rattle.verdict.specs.Decision.{shown_at};
 ghost use Rattle.witness.specs.Held.{RefusedAt, ShownAt, first_usages, is_condition, condition_bytes, condition_if, conditions_of};
 
@@ -21,6 +22,7 @@ use literals::head::{Head, actions_in, arity_of, components_in, rows_of, variabl
 use literals::limits::MAX_LITERALS;
 use literals::{Moment, Object, Variable};
 use store::instances::put_instance;
+use verdict::moment_of;
 
 // How many literals are true conditions at the moment.
 fn count_conditions(usages: &Marks, n: usize) -> usize
@@ -183,20 +185,13 @@ fn put_witness(
 
 // Whether a witness is written for the place named: not at an end whose class has an over-all literal. `numbers` has the class number of
 // each literal of the table. (The decision names an action and a class of the domain; the tests are there for the proof alone.)
-pub fn is_shown(
-    head: &Head,
-    table: &[u8],
-    numbers: &[u8],
-    i: usize,
-    j: usize,
-    moment: Moment,
-) -> bool
+pub fn is_shown(head: &Head, table: &[u8], numbers: &[u8], i: usize, j: usize, moment: u64) -> bool
     requires { length table.now ≤ 8 * length numbers.now }
     ensures { (D : Domain) (old : List ℕ) → Held D head.now table.now → well_formed D ≡ true
         → numbers.now ≡ over (numbers_of D D.actions) old → i < length D.actions
-        → j < length (classes D (action D i)) → result ≡ shown_at D (action D i) (get_or (classes D (action D i)) j []) moment }
+        → j < length (classes D (action D i)) → result ≡ shown_at D (action D i) (get_or (classes D (action D i)) j []) (moment_by moment) }
 {
-    if moment == Moment::Start || actions_in(head) <= i || MAX_LITERALS <= j {
+    if moment_of(moment) == Moment::Start || actions_in(head) <= i || MAX_LITERALS <= j {
         return true;
     }
     let span = rows_of(head, table, i);
@@ -216,15 +211,15 @@ pub fn show(
     numbers: &[u8],
     i: usize,
     j: usize,
-    moment: Moment,
+    moment: u64,
     number: u64,
     out: &mut [u8],
 ) -> bool
     requires { length table.now ≤ 8 * length numbers.now }
     ensures { (D : Domain) (old : List ℕ) → Held D head.now table.now → well_formed D ≡ true
         → numbers.now ≡ over (numbers_of D D.actions) old → i < length D.actions
-        → RefusedAt D (action D i) j moment number
-        → ShownAt D (action D i) j moment out.old out.new result }
+        → RefusedAt D (action D i) j (moment_by moment) number
+        → ShownAt D (action D i) j (moment_by moment) out.old out.new result }
 {
     if actions_in(head) <= i || MAX_LITERALS <= j {
         return false;
@@ -236,7 +231,7 @@ pub fn show(
         &numbers[span.from..span.to],
         Object(variables_of(head, i)),
         j,
-        moment,
+        moment_of(moment),
         number,
         out,
     )

@@ -43,8 +43,8 @@ struck_from-requires-clause-told c =
     let t = keeping_effects c.loop-next.invariant c.requires.few in
     c.has_pattern-patterns.ensures ∙ ap (λ (t : List ℕ). any is_pattern (rows_in c.args.m t)) (sym t)
 
-pub put_bytes-requires : goal.put_bytes-requires
-put_bytes-requires c =
+pub copy_bytes-requires : goal.copy_bytes-requires
+copy_bytes-requires c =
     let work = c.args.work.now in
     let p = c.requires in
     let w = p.rows in
@@ -78,10 +78,10 @@ loop-next-preserved c =
     let K = c.loop-next.invariant in
     keeping_struck K c.in-Some.next
     (subst (λ (t : List ℕ). FirstStruck (rows_in a.m t) a.work.now a.n c.loop-next.i c.in-Some.next) (keeping_effects K p.few) c.in-Some.ensures.first)
-    p.rows (room_of a.scratch.now a.n p.few p.scratch) refl c.put_bytes.ensures c.in-Some.ensures.inside c.leave.ensures.indexed c.leave.ensures.beside
+    p.rows (room_of a.scratch.now a.n p.few p.scratch) refl c.copy_bytes.ensures c.in-Some.ensures.inside c.leave.ensures.indexed c.leave.ensures.beside
 
-pub put_bytes-requires-2 : goal.put_bytes-requires-2
-put_bytes-requires-2 c =
+pub copy_bytes-requires-2 : goal.copy_bytes-requires-2
+copy_bytes-requires-2 c =
     let work = c.args.work.now in
     let p = c.requires in
     let w = p.rows in
@@ -96,7 +96,7 @@ put_bytes-requires-2 c =
     omega arith
 
 pub shape_of-scratch : goal.shape_of-scratch
-shape_of-scratch c = c.put_bytes-2.auto.out ∙ filled_length c.loop-next.invariant.filled
+shape_of-scratch c = c.copy_bytes-2.auto.out ∙ filled_length c.loop-next.invariant.filled
 
 -- behind the last row that is struck all stay
 pub returns-clause-count : goal.returns-clause-count
@@ -106,7 +106,7 @@ returns-clause-count c =
     let K = c.loop-next.invariant in
     keeping_count
     (keeping_run K a.n (subst (λ (t : List ℕ). FirstStruck (rows_in a.m t) a.work.now a.n c.loop-next.i a.n) (keeping_effects K p.few) c.in_default.ensures.first)
-    p.rows (room_of a.scratch.now a.n p.few p.scratch) refl c.put_bytes-2.ensures)
+    p.rows (room_of a.scratch.now a.n p.few p.scratch) refl c.copy_bytes-2.ensures)
     refl
 
 pub returns-clause-rows : goal.returns-clause-rows
@@ -116,7 +116,7 @@ returns-clause-rows c =
     let K = c.loop-next.invariant in
     keeping_rows
     (keeping_run K a.n (subst (λ (t : List ℕ). FirstStruck (rows_in a.m t) a.work.now a.n c.loop-next.i a.n) (keeping_effects K p.few) c.in_default.ensures.first)
-    p.rows (room_of a.scratch.now a.n p.few p.scratch) refl c.put_bytes-2.ensures)
+    p.rows (room_of a.scratch.now a.n p.few p.scratch) refl c.copy_bytes-2.ensures)
     refl
 
 pub returns-clause-indexed : goal.returns-clause-indexed
@@ -126,5 +126,5 @@ returns-clause-indexed c =
     let K = c.loop-next.invariant in
     keeping_indexed
     (keeping_run K a.n (subst (λ (t : List ℕ). FirstStruck (rows_in a.m t) a.work.now a.n c.loop-next.i a.n) (keeping_effects K p.few) c.in_default.ensures.first)
-    p.rows (room_of a.scratch.now a.n p.few p.scratch) refl c.put_bytes-2.ensures)
+    p.rows (room_of a.scratch.now a.n p.few p.scratch) refl c.copy_bytes-2.ensures)
     refl

@@ -1,5 +1,5 @@
 -- `has_witness` meets its contract. Assumes nothing.
-use mathlib.Core.Path.{sym, ◌∙◌}
+use mathlib.Core.Path.{refl, sym, ◌∙◌}
 use native.Mathlib.Omega.{arith}
 use Rattle.records.proofs.Lists.{clash}
 use Rattle.judging.proofs.Calls.{writes_below, writes_above, writes_at}
@@ -9,7 +9,7 @@ use Rattle.judging.proofs.has_witness.Goals.{in-40-to-42, in_default, in_default
 pub returns-then-matches : goal.returns-then-matches
 returns-then-matches c D old H wf f is =
     elim c.if-matches-2.branch [
-      | in-40-to-42 w ↦ writes_at D is (omega arith) (omega arith) c.moment.ensures (c.is_shown.ensures D old H wf f)
+      | in-40-to-42 w ↦ writes_at D is (omega arith) (omega arith) refl (c.is_shown.ensures D old H wf f)
       | in_default w ↦ absurd (clash c.if-matches.true w.matches-is)
       | in_default-2 w ↦ absurd (clash c.if-matches.true w.matches-is)
     ]

@@ -35,7 +35,7 @@ returns-then-not-show c D H wf =
     let has = sym (c.has_witness.ensures D _ H wf (all.numbers D H wf) is) ∙ c.if-has_witness.true in
     let number = ap (writes_witness D) (number_of D is) in
     let l = c.if-report-naming.false in
-    let shown = showing_of D wit is has c.moment.ensures (c.show.ensures D _ H wf (all.numbers D H wf)) in
+    let shown = showing_of D wit is has refl (c.show.ensures D _ H wf (all.numbers D H wf)) in
     leaves_31 D c.args.report.now wit (omega arith) (sym number ∙ has) (sym shown.0 ∙ c.if-not-show.true) shown.1
     c.at-then-not-show.ensures
 
@@ -54,7 +54,7 @@ returns c D H wf =
     elim c.else-has_witness.branch [
       | else-has_witness-via-then-has_witness+else-not-show w ↦
           let writes = has ∙ w.if-has_witness.true in
-          let shown = showing_of D wit is writes w.moment.ensures (w.show.ensures D _ H wf (all.numbers D H wf)) in
+          let shown = showing_of D wit is writes refl (w.show.ensures D _ H wf (all.numbers D H wf)) in
           leaves_shown D report wit (omega arith) (sym number ∙ writes) (sym shown.0 ∙ w.if-not-show.false) (w.witness-is ∙ shown.1) is rows
       | else-has_witness-via-else-has_witness w ↦ rw w.witness-is (leaves_plain D report wit (omega arith) (sym number ∙ (has ∙ w.if-has_witness.false)) is rows)
     ]

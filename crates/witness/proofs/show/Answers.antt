@@ -1,8 +1,10 @@
 -- `show` meets its contract. Assumes nothing.
-use mathlib.Core.Path.{◌∙◌}
+use mathlib.Core.Path.{subst, ◌∙◌}
 use native.Mathlib.Omega.{arith}
 use Rattle.literals.specs.Domain.{action}
 use Rattle.classes.proofs.Tables.{numbers_part}
+use Rattle.literals.specs.declared.Moment.{Moment}
+use Rattle.witness.specs.Held.{RefusedAt, ShownAt}
 use Rattle.verdict.proofs.ReadActions.{action_held}
 use Rattle.witness.proofs.Shown.{class_few}
 use Rattle.witness.proofs.show.Goals as goal
@@ -23,5 +25,7 @@ returns c D old H wf f g =
     let a = c.args in
     let S = c.rows_of-span.ensures.rows D H g in
     let A = action_held H wf a.i g S.literals in
-    c.put_witness.ensures D (action D a.i) A (numbers_part D a.i g S a.numbers.now old f)
-    (c.variables_of.ensures.number ∙ H.says.variables a.i g)
+    subst (λ (m : Moment). RefusedAt D (action D a.i) a.j m a.number → ShownAt D (action D a.i) a.j m a.out.now c.put_witness.new.out c.put_witness.result)
+    c.moment_of.ensures
+    (c.put_witness.ensures D (action D a.i) A (numbers_part D a.i g S a.numbers.now old f)
+    (c.variables_of.ensures.number ∙ H.says.variables a.i g))

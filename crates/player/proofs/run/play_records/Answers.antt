@@ -4,7 +4,7 @@ use lib.ListN.{length, length-replicate}
 use Rattle.std.specs.Prelude.{Ok, Err}
 use Rattle.events.specs.Held.{agenda_bytes, agenda_open}
 use Rattle.player.specs.declared.run.Ended.{Ended}
-use Rattle.player.specs.Held.{whole_in, turn_in, end_in}
+use Rattle.player.specs.Held.{whole_in, turn_in}
 use Rattle.player.proofs.PlayTurns.{ending_some}
 use Rattle.player.proofs.PlayLoop.{begins, playable, loop_on, loop_falls, loop_ends}
 use Rattle.player.proofs.run.play_records.Goals as goal
@@ -69,5 +69,5 @@ returns-in-Err c D old H clear =
     let e = loop_ends D H.says.bounded a.run.now old (whole_in l.player l.agenda) l.work
     (l.invariant.3 D old H clear p.index p.agenda) (turn_in (Err x.over) s.new.agenda) _ _
     (λ q o st noted. x.ensures.leads D q o H st noted) (λ q o st noted. x.ensures.noted D q o H st noted) (ending_some _)
-    (end_in b.result) (ap end_in b.ensures) in
+    b.result b.ensures in
     (e.0, e.1, ap (λ (x : Ended). agenda_open x.opened s.new.agenda) b.ensures ∙ e.2)

@@ -7,7 +7,7 @@ use lib.ListN.{length-replicate}
 use Rattle.events.specs.Held.{agenda_bytes}
 use Rattle.run_semantics.specs.Play.{play_run}
 use Rattle.run_semantics.proofs.Numbers.{numbered_stop}
-use Rattle.player.specs.Held.{WholeEnd}
+use Rattle.player.specs.declared.run.Ended.{Ended}
 use Rattle.player.proofs.Sound.{kept_run}
 use Rattle.player.proofs.PlayLoop.{cleared}
 use Rattle.player.proofs.TrackCalls.{stopped_answer, early_answer, total_answer, end_rows}
@@ -46,7 +46,7 @@ total_of-total-requires c =
     let D = p.domain.0 in
     let H = p.domain.1 in
     let e = play-run.ensures D H in
-    let n = ap (λ (x : WholeEnd). x.facts) e.0 in
+    let n = ap (λ (x : Ended). x.facts) e.0 in
     let k = (kept_run D H.says.bounded a.run.now).1.facts_few in
     let room = p.room in
     let l = play-run.auto.work in record {
@@ -65,7 +65,7 @@ returns c D H wf =
     let o = play_run D a.run.now in
     let z = sym (c.in_default.ensures D H.says) in
     let k = (kept_run D H.says.bounded a.run.now).1 in
-    let n = ap (λ (x : WholeEnd). x.facts) e.0 in
+    let n = ap (λ (x : Ended). x.facts) e.0 in
     total_answer D a.instance.now a.run.now z play-run.result e.0 (not_false _ c.if-not-ended.false)
     c.answer_by-2.result
     (c.answer_by-2.ensures o e.0) total_of.result
