@@ -1,24 +1,45 @@
 -- Laws of loops over rows of 17 bytes: finding one, taking one out, writing one behind them; and over the events that wait. Assumes nothing.
 use mathlib.Core.Path.{◌≡◌, refl, sym, ap, ap₂, ◌∙◌}
-use mathlib.Core.Bool.{Bool, true, false, cond}
+use mathlib.Core.Bool.{Bool, true, false, ◌&&◌, cond}
+use mathlib.Core.Logic.{◌⊎◌, inl, inr}
 use mathlib.Core.List.{List, [], ◌∷◌, ◌++◌, append-nil, append_assoc}
-use Prim.Native.Nat.{ℕ, suc, ◌+◌, ◌-◌, ◌*◌, ◌≤◌, ◌<◌}
+use Prim.Native.Nat.{ℕ, zero, suc, ◌+◌, ◌-◌, ◌*◌, ◌≤◌, ◌<◌}
 use native.Mathlib.Nat.{sub-zero}
 use native.Mathlib.Omega.{arith}
 use lib.Dec.{eqb, ltb}
-use lib.ListN.{length, get_or, take, drop, replicate, length-append, length-drop, drop_of_length-le}
-use lib.Seq.{paste, take_all, take_at, length-take-le, get_or-drop, drop-drop}
-use borrow.Author.Tests.{ltb-true, ltb-false, eq-eqb, ne_eqb}
-use Rattle.records.specs.Lists.{same_list, position}
+use lib.ListN.{length, get_or, take, drop, replicate, length-drop, drop_of_length-le}
+use lib.Seq.{paste, length-paste, take-paste, take_all, get_or-drop, drop-drop}
+use borrow.Author.Tests.{ltb-true, ltb-false, eqb-true, eqb-false, eq-eqb, ne_eqb}
+use Rattle.records.specs.Lists.{all, below, numbers_from, same_list, position}
+use Rattle.records.proofs.Lists.{bool_cases}
 use Rattle.std.specs.Prelude.{Option, Some, None}
-use Rattle.literals.proofs.KeyRows.{place_le, length_rows}
-use borrow.Rule.Slice.PartMut.{put_mid, mid_of, post_of, same_len_mid}
+use Rattle.literals.proofs.KeyRows.{place_le, length_rows, row_miss, row_hit, row_end}
 use Rattle.events.specs.Held.{Open, grounds_in, EventRow, event_at, events_in, entry_place, without_entry, close_entry, close_event}
 use Rattle.events.specs.Held.{close_events, join_entry, opens_by, join_event, join_events, OpenAfter, count_after}
 
 -- a part of 17 bytes
 pub part_ground : (t : List ℕ) (at : ℕ) → take (at + 17 - at) (drop at t) ≡ take 17 (drop at t)
 part_ground t at = let e : at + 17 - at ≡ 17 = omega arith in ap (λ (k : ℕ). take k (drop at t)) e
+
+-- 17 bytes are the same where each of them is
+module _ (x t : List ℕ) (at : ℕ) (wide : length x ≡ 17) (room : at + 17 ≤ length t) where
+  same_from : (i n : ℕ) → i + n ≡ 17 → all (λ i. eqb (get_or x i 0) (get_or t (at + i) 0)) (numbers_from i n) ≡ same_list eqb (drop i x) (drop i (take 17 (drop at t)))
+  same_from i zero e = sym (row_end 17 x t at i (omega arith) (omega arith) (omega arith))
+  same_from i (suc n) e = go (same_from (i + 1) n (omega arith)) (bool_cases (eqb (get_or x i 0) (get_or t (at + i) 0)))
+    where
+      go : all (λ i. eqb (get_or x i 0) (get_or t (at + i) 0)) (numbers_from (i + 1) n) ≡ same_list eqb (drop (i + 1) x) (drop (i + 1) (take 17 (drop at t)))
+          → (eqb (get_or x i 0) (get_or t (at + i) 0) ≡ true) ⊎ (eqb (get_or x i 0) (get_or t (at + i) 0) ≡ false)
+          → all (λ i. eqb (get_or x i 0) (get_or t (at + i) 0)) (numbers_from i (suc n)) ≡ same_list eqb (drop i x) (drop i (take 17 (drop at t)))
+      go rest (inl s) =
+          ap (λ (b : Bool). b && all (λ i. eqb (get_or x i 0) (get_or t (at + i) 0)) (numbers_from (i + 1) n)) s
+          ∙ rest
+          ∙ sym (row_hit 17 x t at i (omega arith) (omega arith) (omega arith) (eqb-true _ _ s))
+      go rest (inr d) =
+          ap (λ (b : Bool). b && all (λ i. eqb (get_or x i 0) (get_or t (at + i) 0)) (numbers_from (i + 1) n)) d
+          ∙ sym (row_miss 17 x t at i (omega arith) (omega arith) (omega arith) (eqb-false _ _ d))
+
+  pub bytes_same : all (λ i. eqb (get_or x i 0) (get_or t (at + i) 0)) (below 17) ≡ same_list eqb x (take 17 (drop at t))
+  bytes_same = same_from 0 17 refl
 
 -- ---- the events that wait, from event i on
 
@@ -70,55 +91,37 @@ events_first moments rows n = ap (λ (k : ℕ). events_in k moments rows) (sub-z
 
 -- ---- an entry taken out
 
--- the later entries forward, and it behind them; then zeros in its place
-module _ (old turned : List ℕ) (k : ℕ) (size : length old ≡ 544) (few : k < 32)
-    (e : turned ≡ drop 17 (mid_of (17 * k) (length old - 17 * k) old) ++ take 17 (mid_of (17 * k) (length old - 17 * k) old)) where
-  abbrev later : List ℕ
-  later = drop (17 * k + 17) old
+-- a copy over all of a list as long
+pub whole_copy : (d s t : List ℕ) → length d ≡ length s → t ≡ paste d 0 s (length s) → t ≡ s
+whole_copy d s t h e = e ∙ ap₂ ◌++◌ (take_all (length s) s (omega arith)) (drop_of_length-le d {i = 0 + length s} (omega arith)) ∙ append-nil s
 
-  abbrev last : List ℕ
-  last = take 17 (drop (17 * k) old)
+-- what stands behind the entry k
+abbrev pub behind : ℕ → List ℕ → List ℕ
+behind k t = take (544 - (17 * k + 17)) (drop (17 * k + 17) t)
 
-  abbrev turned_out : List ℕ
-  turned_out = put_mid (17 * k) (length old - 17 * k) old turned
+-- the later entries forward, then zeros behind
+module _ (old copy mid rows : List ℕ) (k : ℕ) (size : length old ≡ 544) (few : k < 32) (w : copy ≡ old) (e : mid ≡ paste old (17 * k) (behind k copy) (length (behind k copy))) where
+  later : behind k copy ≡ drop (17 * k + 17) old
+  later = ap (behind k) w ∙ take_all (544 - (17 * k + 17)) (drop (17 * k + 17) old) (simp length-drop (omega arith))
 
-  turned_is : turned ≡ later ++ last
-  turned_is =
-      e
-      ∙ ap (λ (t : List ℕ). drop 17 t ++ take 17 t) (take_all (length old - 17 * k) (drop (17 * k) old) (simp length-drop (omega arith)))
-      ∙ ap (λ (t : List ℕ). t ++ last) (drop-drop 17 (17 * k) old)
+  length_later : 17 * k + length (behind k copy) ≡ 527
+  length_later = omega (arith, ap length later ∙ length-drop (17 * k + 17) old)
 
-  length_turned : length turned_out ≡ 544
-  length_turned =
-      let a = length-drop (17 * k + 17) old in
-      let b = length-drop (17 * k) old in
-      let c : length last ≡ 17 = length-take-le 17 (drop (17 * k) old) (omega arith) in
-      let d : length turned ≡ length later + length last = ap length turned_is ∙ length-append later last in
-      let m : length (mid_of (17 * k) (length old - 17 * k) old) ≡ length (drop (17 * k) old) =
-      ap length (take_all (length old - 17 * k) (drop (17 * k) old) (omega arith)) in
-      same_len_mid (17 * k) (length old - 17 * k) old turned (omega arith) ∙ size
+  length_mid : length mid ≡ 544
+  length_mid = ap length e ∙ length-paste old (17 * k) (behind k copy) (length (behind k copy)) (omega (arith, length_later)) (omega arith) ∙ size
 
-  front : take 527 turned_out ≡ take (17 * k) old ++ later
+  front : take 527 mid ≡ take (17 * k) old ++ drop (17 * k + 17) old
   front =
-      let l = length-append (take (17 * k) old) later in
-      let a = length-take-le (17 * k) old (omega arith) in
-      let b = length-drop (17 * k + 17) old in
-      let rest : List ℕ = post_of (17 * k) (length old - 17 * k) old in
-      ap (λ (t : List ℕ). take 527 (take (17 * k) old ++ (t ++ rest))) turned_is
-      ∙ ap (λ (t : List ℕ). take 527 (take (17 * k) old ++ t)) (append_assoc later last rest)
-      ∙ ap (take 527) (sym (append_assoc (take (17 * k) old) later (last ++ rest)))
-      ∙ take_at (take (17 * k) old ++ later) (last ++ rest) 527 (omega arith)
+      ap₂ take (sym length_later) e
+      ∙ take-paste old (17 * k) (behind k copy) (length (behind k copy)) (omega arith) (omega arith)
+      ∙ ap (λ (t : List ℕ). take (17 * k) old ++ t) (take_all (length (behind k copy)) (behind k copy) (omega arith) ∙ later)
 
-  pub rotated_out : (zeros : List ℕ) → zeros ≡ replicate (length (mid_of 527 (length turned_out - 527) turned_out)) 0
-      → put_mid 527 (length turned_out - 527) turned_out zeros ≡ take (17 * k) old ++ (drop (17 * k + 17) old ++ replicate 17 0)
-  rotated_out zeros f =
-      let n = length_turned in
-      let d = length-drop 527 turned_out in
-      let m : length (mid_of 527 (length turned_out - 527) turned_out) ≡ 17 = length-take-le (length turned_out - 527) (drop 527 turned_out) (omega arith) ∙ omega arith in
-      ap₂ ◌++◌ front
-      (ap₂ ◌++◌ (f ∙ ap (λ (n : ℕ). replicate {A = ℕ} n 0) m) (drop_of_length-le (drop 527 turned_out) {i = length turned_out - 527} (omega arith))
-      ∙ append-nil (replicate 17 0))
-      ∙ append_assoc (take (17 * k) old) later (replicate 17 0)
+  pub out_is : rows ≡ paste mid 527 (replicate 17 0) 17 → rows ≡ take (17 * k) old ++ (drop (17 * k + 17) old ++ replicate 17 0)
+  out_is f =
+      f
+      ∙ ap₂ ◌++◌ (ap (λ (t : List ℕ). t ++ replicate 17 0) front) (drop_of_length-le mid {i = 544} (omega (arith, length_mid)))
+      ∙ append-nil ((take (17 * k) old ++ drop (17 * k + 17) old) ++ replicate 17 0)
+      ∙ append_assoc (take (17 * k) old) (drop (17 * k + 17) old) (replicate 17 0)
 
 -- the first equal entry out
 module _ (o : Open) (row : List ℕ) where

@@ -1,8 +1,8 @@
 // The list of open lasting actions: which ends are open, and what a step leaves of it. An entry is a row of 17 bytes: action,
 // objects, FF to fill.
-ghost use Rattle.std.specs.Prelude.{◌≡◌, List, [], ◌++◌, ℕ, ◌+◌, ◌*◌, ◌≤◌, ◌<◌, eqb, leb, length, take, drop, replicate};
+ghost use Rattle.std.specs.Prelude.{◌≡◌, List, [], ◌++◌, ℕ, ◌+◌, ◌*◌, ◌≤◌, ◌<◌, eqb, leb, length, get_or, take, drop, replicate};
 ghost use Rattle.std.specs.Prelude.{Some, None, is_some};
-ghost use Rattle.records.specs.Lists.{all, same_list};
+ghost use Rattle.records.specs.Lists.{all, below, same_list};
 ghost use Rattle.literals.specs.Domain.{Domain};
 ghost use Rattle.literals.specs.Held.{Bounded, HeadOf};
 ghost use Rattle.verdict.specs.Machine.{GroundAction, Event, is_open, close_all, opened_by};
@@ -17,6 +17,7 @@ use super::facts::ground_at;
 use super::{AGENDA, END, EVENTS_AT, GROUND, MOMENTS_AT, OPEN_ROWS};
 use literals::head::{Head, actions_in, is_lasting};
 use literals::limits::{MAX_EVENTS, MAX_RUNNING};
+use records::bytes::{put_bytes, put_zeros};
 
 // The offset of the last entry that there is room for.
 const LAST_ROW: usize = OPEN_ROWS - GROUND;
@@ -32,13 +33,22 @@ struct Waiting<'a> {
     ghost few: { count ≤ max_events },
 }
 
-// Whether the entry at an offset is this one. (By slices: entries are few, and longer than a number.)
+// Whether the bytes of the entry at an offset are these.
+fn same_bytes(memory: &[u8], at: usize, act: &[u8]) -> bool
+    requires entry { at + ground_bytes ≤ length memory.now }
+    requires row { length act.now ≡ ground_bytes }
+    ensures { result ≡ all (λ i. eqb (get_or act.now i 0) (get_or memory.now (at + i) 0)) (below ground_bytes) }
+{
+    (0..GROUND).all(|i| act[i] == memory[at + i])
+}
+
+// Whether the entry at an offset is this one. (Byte by byte, and not by slices: `==` of slices is a call for each entry that is looked at.)
 pub fn same_ground(memory: &[u8], at: usize, act: &[u8]) -> bool
     requires entry { at + ground_bytes ≤ length memory.now }
     requires row { length act.now ≡ ground_bytes }
     ensures { result ≡ same_list eqb act.now (take ground_bytes (drop at memory.now)) }
 {
-    act == &memory[at..at + GROUND]
+    same_bytes(memory, at, act)
 }
 
 // The number of the first of n entries that is this one.
@@ -109,15 +119,17 @@ fn opens_entry(head: &Head, moment: u8, action: u8) -> bool
     moment != END && i < actions_in(head) && is_lasting(head, i)
 }
 
-// Removes the entry k: the later ones move forward, zeros fill the end.
+// Removes the entry k: the later ones move forward, zeros fill the end. (From a copy of 544 bytes: `rotate_left` clears 4,096 for itself.)
 fn without(rows: &mut [u8], k: usize)
     requires entries { length rows.old ≡ open_bytes }
     requires entry { k < max_running }
     ensures { rows.new ≡ take (ground_bytes * k) rows.old
         ++ (drop (ground_bytes * k + ground_bytes) rows.old ++ replicate ground_bytes 0) }
 {
-    rows[GROUND * k..].rotate_left(GROUND);
-    rows[LAST_ROW..].fill(0);
+    let mut old = [0u8; OPEN_ROWS];
+    put_bytes(&mut old, 0, rows);
+    put_bytes(rows, GROUND * k, &old[GROUND * k + GROUND..]);
+    put_zeros(rows, LAST_ROW, GROUND);
 }
 
 // Takes the first of n entries that is this one out; the count afterwards.
