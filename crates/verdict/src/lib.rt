@@ -204,7 +204,7 @@ impl Notes {
     }
 
     // The notes with the summary of one action more, the action i. Most summaries have nothing for the decision, which is asked first. (In
-    // the loop that calls it, as all that it calls: notes and summary are some bytes each, and to hand them over costs more than to join them.)
+    // the loop that calls it, with all that it calls: to hand over notes and summary, some bytes each, costs more than to join them.)
     #[inline(always)]
     pub fn with(self, i: u8, summary: Summary) -> Notes
         ensures { (ss : List Summary) → i ≡ length ss → self ≡ notes_of ss → result ≡ notes_of (ss ++ (summary ∷ [])) }
